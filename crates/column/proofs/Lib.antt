@@ -1,0 +1,6 @@
+pub mod Cells
+pub mod Groups
+pub mod Faults
+pub mod Exits
+pub mod Columns
+pub mod Writes
