@@ -4,3 +4,5 @@ pub mod Faults
 pub mod Exits
 pub mod Columns
 pub mod Writes
+pub mod Filled
+pub mod Accepted

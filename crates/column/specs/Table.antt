@@ -98,16 +98,27 @@ absent-refusal n frames groups = cond (ltb 0 n && (frames || groups)) (Some (Abs
 
 -- 11
 abbrev pub output-refusal : ℕ → ℕ → Option Fault
-output-refusal n size = cond (ltb size n) (Some (ShortOutput size)) None
+output-refusal n slots = cond (ltb slots n) (Some (ShortOutput slots)) None
 
 -- the whole table, over the kind's sameness, whether frames and groups are wanted, what is handed in, and the number of output slots
 abbrev pub whole-refusal : {V : Type 0} → (V → V → Bool) → Bool → Bool → Input V → ℕ → Option Fault
-whole-refusal same wants-frames wants-groups x size =
+whole-refusal same wants-frames wants-groups x slots =
     or-else (column-refusal (length (x .values)) (length (x .marks)))
     (or-else (frames-refusal (row-count x) (x .frames))
     (or-else (groups-refusal (x .groups) (peers same (cells (x .values) (x .marks))))
     (or-else (absent-refusal (row-count x) (wants-frames && absent (x .frames)) (wants-groups && absent (x .groups)))
-    (output-refusal (row-count x) size))))
+    (output-refusal (row-count x) slots))))
+
+-- what an accepted call has
+pub record Accepted {V : Type 0} (same : V → V → Bool) (wants-frames wants-groups : Bool) (x : Input V) (slots : ℕ) : Type 0 where
+  pub lengths : length (x .values) ≡ length (x .marks)
+  pub limited : row-count x ≤ row-limit
+  pub room : row-count x ≤ slots
+  -- a frame for each row, if they are wanted, and each fit
+  pub framed : wants-frames ≡ true → length (x .frames) ≡ row-count x
+  pub fit : (i : ℕ) → i < length (x .frames) → (getD (x .frames) i (0, 0) .0 ≤ getD (x .frames) i (0, 0) .1) × (getD (x .frames) i (0, 0) .1 ≤ row-count x)
+  -- the column's groups, if they are wanted
+  pub grouped : wants-groups ≡ true → x .groups ≡ peers same (cells (x .values) (x .marks))
 
 -- what a call gives, of what refuses it
 abbrev pub yields : {X : Type 0} → X → Option Fault → Result X Fault

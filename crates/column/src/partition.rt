@@ -1,8 +1,9 @@
 ghost use mathlib.Core.Path.{_≡_};
 ghost use lib.ListN.{length};
+ghost use Rattle.std.specs.declared.result.Result.the-variants.{Ok};
 ghost use Rattle.column.specs.Cells.{column-cells};
 ghost use Rattle.column.specs.Peers.{PeerLaw};
-ghost use Rattle.column.specs.Table.{input, passes, unfit, frames-fault, frames-refusal, groups-refusal, column-groups, whole-refusal};
+ghost use Rattle.column.specs.Table.{input, passes, unfit, frames-fault, frames-refusal, groups-refusal, column-groups, whole-refusal, Accepted};
 use crate::column::Column;
 use crate::column::ColumnClone;
 use crate::fault::Fault;
@@ -134,6 +135,7 @@ pub fn check_whole<K: Kind>(
     slots: usize,
 ) -> Result<(), Fault>
     ensures checked { λ r. ⌜ r ≡ passes (whole-refusal (K·Kind .same) «wants_frames» «wants_groups» (input (now (partition .entry))) slots) ⌝ }
+    ensures accepted { λ r. ⌜ (r ≡ Ok tt → Accepted (K·Kind .same) «wants_frames» «wants_groups» (input (now (partition .entry))) slots) ⌝ }
     ensures peers { λ _. ⌜ PeerLaw (K·Kind .same) (column-cells (now (partition .entry) .column)) ⌝ }
 {
     first_fault(partition, wants_frames, wants_groups, slots)

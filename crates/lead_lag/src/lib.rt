@@ -1,0 +1,118 @@
+// Ported from `lead_lag.rs` of the crate datafusion-functions-window 55.0.0 (Apache-2.0), and changed:
+// the planner's part is left out, the caller lends the output, and a count with the row of the oldest
+// stands for the queue of distances between present rows.
+ghost use mathlib.Core.Path.{_≡_};
+ghost use mathlib.Core.Bool.{false};
+ghost use Rattle.lead_lag.specs.Cases.{Cases};
+ghost use Rattle.lead_lag.specs.Shift.{shift-meaning, shift-renewed, making};
+
+pub mod held;
+pub mod offset;
+pub mod whole;
+
+use crate::held::Held;
+use crate::offset::WindowShiftKind;
+use crate::offset::look;
+use crate::offset::signed_offset;
+use crate::whole::write_all;
+use column::fault::Fault;
+use column::kind::Kind;
+use column::output::Output;
+use column::partition::WholePartition;
+use column::partition::check_whole;
+use evaluator::evaluator::Evaluator;
+use evaluator::utils::Argument;
+use evaluator::utils::get_signed_integer;
+
+const FRAMES: bool = false;
+
+const GROUPS: bool = false;
+
+// LAG and LEAD: a positive offset looks back, a negative one ahead.
+#[derive(Drop)]
+pub struct WindowShift<K> {
+    shift_offset: i64,
+    ignore_nulls: bool,
+    default_value: Option<K>,
+    held: Held,
+}
+
+impl<K: Kind> WindowShift<K> {
+    // The offset is an argument of the call in SQL; the default is a cell, NULL if none is given.
+    pub fn new(
+        kind: WindowShiftKind,
+        offset: Argument,
+        reversed: bool,
+        ignore_nulls: bool,
+        default_value: Option<K>,
+    ) -> Result<WindowShift<K>, Fault>
+        ensures { λ r. ⌜ r ≡ making kind offset reversed «ignore_nulls» «default_value» ⌝ }
+    {
+        let value = get_signed_integer(offset)?;
+        let shift_offset = signed_offset(kind, value, reversed);
+        Ok(WindowShift {
+            shift_offset,
+            ignore_nulls,
+            default_value,
+            held: Held::START,
+        })
+    }
+}
+
+pub impl<K: Kind> Evaluator for WindowShift<K> as WindowShiftEvaluator {
+    type Value = K;
+
+    type Answer = Option<K>;
+
+    const WANTS_FRAMES: bool = FRAMES;
+
+    const WANTS_GROUPS: bool = GROUPS;
+
+    ghost frames = { false };
+
+    ghost groups = { false };
+
+    ghost meaning = { shift-meaning };
+
+    ghost renewed = { shift-renewed };
+
+    fn frames_wanted() -> bool {
+        FRAMES
+    }
+
+    fn groups_wanted() -> bool {
+        GROUPS
+    }
+
+    fn fresh(&self) -> WindowShift<K> {
+        WindowShift {
+            shift_offset: self.shift_offset,
+            ignore_nulls: self.ignore_nulls,
+            default_value: self.default_value,
+            held: Held::START,
+        }
+    }
+
+    fn evaluate_all<O: Output<Option<K>>>(
+        &self,
+        rows: &WholePartition<'_, K>,
+        out: &mut O,
+    ) -> Result<(), Fault> {
+        check_whole(rows, FRAMES, GROUPS, out.len())?;
+        write_all(
+            look(self.shift_offset),
+            self.ignore_nulls,
+            self.default_value,
+            &rows.column,
+            out,
+        );
+        Ok(())
+    }
+}
+
+// The worked cases hold of the definitions.
+pub fn cases_hold() -> bool
+    ensures { λ _. ⌜ Cases ⌝ }
+{
+    true
+}
