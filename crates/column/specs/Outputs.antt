@@ -12,7 +12,7 @@ use Rattle.column.specs.declared.output.Cells.{Cells}
 use Rattle.column.specs.declared.output.Numbers.{Numbers}
 
 abbrev pub same-list : {A : Type 0} → Numbers A → Numbers A → Type 0
-same-list b c = name (b .values) ≡ name (c .values)
+same-list b c = name (b .list) ≡ name (c .list)
 
 pub number-laws : {A : Type 0} → OutputLaws {X = Numbers A} {S = List A} {A = A} (λ s i a. set s i a) (λ s. length s) same-list
 number-laws = record { size-stays = λ s i a. length-set s i a; refl = λ x. refl; trans = λ x y z p q. p ∙ q }

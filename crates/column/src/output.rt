@@ -33,13 +33,13 @@ pub trait Output<A> {
 // A lent list of numbers.
 #[derive(Drop)]
 pub struct Numbers<'a, A> {
-    pub values: &'a mut [A],
+    pub list: &'a mut [A],
 }
 
 pub impl<'a, A: Copy> Output<A> for Numbers<'a, A> as NumberOutput {
     ghost Slots = { List A };
 
-    ghost slots = { λ b. now (b .values) };
+    ghost slots = { λ b. now (b .list) };
 
     ghost stored = { λ s i a. set s i a };
 
@@ -50,11 +50,11 @@ pub impl<'a, A: Copy> Output<A> for Numbers<'a, A> as NumberOutput {
     ghost laws = { number-laws };
 
     fn len(&self) -> usize {
-        self.values.len()
+        self.list.len()
     }
 
     fn put(&mut self, i: usize, answer: A) {
-        self.values[i] = answer;
+        self.list[i] = answer;
     }
 }
 

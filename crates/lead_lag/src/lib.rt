@@ -6,9 +6,9 @@ ghost use mathlib.Core.Bool.{false};
 ghost use Rattle.lead_lag.specs.Cases.{Cases};
 ghost use Rattle.lead_lag.specs.Shift.{shift-meaning, shift-renewed, making};
 
-pub mod held;
+mod held;
 pub mod offset;
-pub mod whole;
+mod whole;
 
 use crate::held::Held;
 use crate::offset::WindowShiftKind;

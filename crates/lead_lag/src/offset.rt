@@ -10,14 +10,14 @@ pub enum WindowShiftKind {
 
 // Where an offset looks, and how far.
 #[derive(Clone, Copy)]
-pub enum Way {
+pub(crate) enum Way {
     Own,
     Back(usize),
     Ahead(usize),
 }
 
 // The same offset the other way, wrapping.
-pub fn opposite(offset: i64) -> i64
+pub(crate) fn opposite(offset: i64) -> i64
     ensures { λ r. ⌜ r ≡ opposite offset ⌝ }
 {
     offset.wrapping_neg()
@@ -38,7 +38,7 @@ impl WindowShiftKind {
 }
 
 // The offset of the function, negated once more where the window is reversed.
-pub fn signed_offset(kind: WindowShiftKind, value: Option<i64>, reversed: bool) -> i64
+pub(crate) fn signed_offset(kind: WindowShiftKind, value: Option<i64>, reversed: bool) -> i64
     ensures { λ r. ⌜ r ≡ signed-offset kind value reversed ⌝ }
 {
     let offset = kind.shift_offset(value);
@@ -46,7 +46,7 @@ pub fn signed_offset(kind: WindowShiftKind, value: Option<i64>, reversed: bool) 
 }
 
 // The way of a signed offset.
-pub fn look(offset: i64) -> Way
+pub(crate) fn look(offset: i64) -> Way
     ensures { λ r. ⌜ r ≡ way-of offset ⌝ }
 {
     let m = offset.unsigned_abs() as usize;

@@ -1,0 +1,6 @@
+#[cfg(test)]
+mod kinds;
+#[cfg(test)]
+mod refusals;
+#[cfg(test)]
+mod shifts;
