@@ -8,14 +8,14 @@ use column::kind::InstantKind;
 use column::kind::InstantPartialEq;
 use column::kind::LoginOutcome;
 use column::kind::OutcomeKind;
-use column::partition::WholePartition;
-use column::partition::check_whole;
 use evaluator::cells::evaluate_cells;
 use evaluator::utils::Argument;
 use evaluator::utils::get_signed_integer;
 use lead_lag::WindowShift;
 use lead_lag::WindowShiftEvaluator;
 use lead_lag::offset::WindowShiftKind;
+use partition::whole::WholePartition;
+use partition::whole::check_whole;
 use std::test::*;
 
 // 4, 4, NULL

@@ -3,12 +3,12 @@ use column::kind::Instant;
 use column::kind::InstantDebug;
 use column::kind::InstantKind;
 use column::kind::InstantPartialEq;
-use column::partition::WholePartition;
 use evaluator::cells::evaluate_cells;
 use evaluator::utils::Argument;
 use lead_lag::WindowShift;
 use lead_lag::WindowShiftEvaluator;
 use lead_lag::offset::WindowShiftKind;
+use partition::whole::WholePartition;
 use std::test::*;
 
 // 5, NULL, 7, NULL, NULL, 9

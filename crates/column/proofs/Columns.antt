@@ -8,7 +8,7 @@ use Rattle.std.specs.declared.option.Option.the-variants.{None, Some}
 use Rattle.std.specs.declared.result.Result.{Result}
 use Rattle.std.specs.declared.result.Result.the-variants.{Ok, Err}
 use Rattle.column.specs.declared.fault.Fault.{Fault}
-use Rattle.column.specs.Table.{passes, column-refusal, row-limit}
+use Rattle.column.specs.Refusal.{passes, column-refusal, row-limit}
 use Rattle.column.proofs.Exits.{passed}
 
 pub column-says : (values marks : ℕ) → column-refusal values marks ≡ None → (values ≡ marks) × (values ≤ row-limit)

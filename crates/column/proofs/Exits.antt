@@ -5,7 +5,7 @@ use Rattle.std.specs.declared.option.Option.the-variants.{None, Some}
 use Rattle.std.specs.declared.result.Result.{Result}
 use Rattle.std.specs.declared.result.Result.the-variants.{Ok, Err}
 use Rattle.column.specs.declared.fault.Fault.{Fault}
-use Rattle.column.specs.Table.{passes, yields, or-else}
+use Rattle.column.specs.Refusal.{passes, yields, or-else}
 
 pub refused : (r : Option Fault) (f : Fault) → Err f ≡ passes r → r ≡ Some f
 refused None f e = cc

@@ -1,7 +1,6 @@
 pub mod Fault
 pub mod Kinds
 pub mod Cells
-pub mod Peers
-pub mod Table
+pub mod Refusal
 pub mod Slots
 pub mod Outputs

@@ -2,7 +2,7 @@ ghost use mathlib.Core.Path.{_≡_};
 ghost use lib.ListN.{length, getD};
 ghost use Rattle.std.specs.declared.option.Option.the-variants.{None};
 ghost use Rattle.column.specs.Cells.{column-cells, same-cell, view};
-ghost use Rattle.column.specs.Table.{passes, column-refusal};
+ghost use Rattle.column.specs.Refusal.{passes, column-refusal};
 use crate::fault::Fault;
 use crate::kind::Kind;
 

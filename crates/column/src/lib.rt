@@ -2,5 +2,3 @@ pub mod column;
 pub mod fault;
 pub mod kind;
 pub mod output;
-pub mod partition;
-pub mod peers;

@@ -7,10 +7,11 @@ use Rattle.std.specs.declared.option.Option.the-variants.{None, Some}
 use Rattle.std.specs.declared.result.Result.{Result}
 use Rattle.std.specs.declared.result.Result.the-variants.{Ok, Err}
 use Rattle.column.specs.declared.fault.Fault.{Fault}
-use Rattle.column.specs.Table.{Input, row-count, whole-refusal, Accepted, passes, kept-or}
+use Rattle.column.specs.Refusal.{passes, kept-or}
+use Rattle.partition.specs.Table.{Input, row-count, whole-refusal, Accepted}
 use Rattle.column.specs.Slots.{CellSlots, Filled, written, put-cell, cell-count}
 use Rattle.column.proofs.Exits.{refused, passed}
-use Rattle.column.proofs.Accepted.{whole-says}
+use Rattle.partition.proofs.Accepted.{whole-says}
 use Rattle.column.proofs.Filled.{written-filled}
 use Rattle.evaluator.specs.Meaning.{WholeCall}
 

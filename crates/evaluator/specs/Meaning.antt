@@ -9,7 +9,8 @@ use Rattle.std.specs.declared.option.Option.{Option}
 use Rattle.std.specs.declared.result.Result.{Result}
 use Rattle.column.specs.declared.fault.Fault.{Fault}
 use Rattle.column.specs.Cells.{cells}
-use Rattle.column.specs.Table.{Frame, Input, passes, kept-or}
+use Rattle.column.specs.Refusal.{passes, kept-or}
+use Rattle.partition.specs.Table.{Frame, Input}
 use Rattle.column.specs.Slots.{written}
 
 -- rows, each a cell that is NULL (`None`) or present, and the frame of each row; without frames the empty list

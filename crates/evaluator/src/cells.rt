@@ -1,6 +1,6 @@
 ghost use mathlib.Core.Path.{_≡_};
 ghost use Rattle.std.specs.declared.result.Result.the-variants.{Ok};
-ghost use Rattle.column.specs.Table.{input, row-count, whole-refusal};
+ghost use Rattle.partition.specs.Table.{input, row-count, whole-refusal};
 ghost use Rattle.column.specs.Slots.{Filled, put-cell, cell-count};
 ghost use Rattle.evaluator.specs.Meaning.{WholeCall, partition};
 use crate::evaluator::Evaluator;
@@ -8,7 +8,7 @@ use column::fault::Fault;
 use column::kind::Kind;
 use column::output::CellOutput;
 use column::output::Cells;
-use column::partition::WholePartition;
+use partition::whole::WholePartition;
 
 // The call, with the lists as one output.
 fn write_cells<K: Kind, E: Evaluator<Value = K, Answer = Option<K>>>(

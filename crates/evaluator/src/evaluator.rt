@@ -1,11 +1,11 @@
 ghost use mathlib.Core.Path.{_≡_};
 ghost use mathlib.Core.Bool.{Bool};
-ghost use Rattle.column.specs.Table.{input, row-count, whole-refusal};
+ghost use Rattle.partition.specs.Table.{input, row-count, whole-refusal};
 ghost use Rattle.evaluator.specs.Meaning.{Partition, Meaning, Alike, Laws, WholeCall, partition};
 use column::fault::Fault;
 use column::kind::Kind;
 use column::output::Output;
-use column::partition::WholePartition;
+use partition::whole::WholePartition;
 
 // A window function with its arguments, on whole partitions.
 pub trait Evaluator: Sized {

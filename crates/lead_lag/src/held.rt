@@ -2,7 +2,7 @@ ghost use mathlib.Core.Path.{_≡_};
 ghost use Prim.Native.Nat.{_-_, _<_};
 ghost use Rattle.std.specs.shelf.Maps.{nth};
 ghost use Rattle.column.specs.Cells.{view};
-ghost use Rattle.column.specs.Table.{row-limit};
+ghost use Rattle.column.specs.Refusal.{row-limit};
 ghost use Rattle.lead_lag.specs.Present.{ahead};
 ghost use Rattle.lead_lag.specs.Steps.{next-present, counted, counted-row, oldest-source};
 use column::column::Window;

@@ -18,11 +18,11 @@ use crate::whole::write_all;
 use column::fault::Fault;
 use column::kind::Kind;
 use column::output::Output;
-use column::partition::WholePartition;
-use column::partition::check_whole;
 use evaluator::evaluator::Evaluator;
 use evaluator::utils::Argument;
 use evaluator::utils::get_signed_integer;
+use partition::whole::WholePartition;
+use partition::whole::check_whole;
 
 const FRAMES: bool = false;
 

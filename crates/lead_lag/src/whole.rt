@@ -5,7 +5,7 @@ ghost use lib.ListN.{length};
 ghost use Rattle.std.specs.shelf.Maps.{nth};
 ghost use Rattle.column.specs.Cells.{column-cells, view};
 ghost use Rattle.column.specs.Slots.{written};
-ghost use Rattle.column.specs.Table.{row-limit};
+ghost use Rattle.column.specs.Refusal.{row-limit};
 ghost use Rattle.lead_lag.specs.declared.offset.Way.the-variants.{Back, Ahead};
 ghost use Rattle.lead_lag.specs.Present.{ahead};
 ghost use Rattle.lead_lag.specs.Shift.{Proper, row-off, taken, shifted};

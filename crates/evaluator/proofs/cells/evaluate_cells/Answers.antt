@@ -1,4 +1,4 @@
-use Rattle.column.specs.Table.{input}
+use Rattle.partition.specs.Table.{input}
 use Rattle.evaluator.proofs.Calls.{call-fills}
 use Rattle.evaluator.proofs.cells.evaluate_cells.Needs as need
 

@@ -9,7 +9,7 @@ use mir.Val.{SFits, toZ, ofZ}
 use Rattle.std.proofs.shelf.Signed.{toZ-ofZ}
 use Rattle.column.specs.Cells.{cells}
 use Rattle.column.specs.Slots.{written}
-use Rattle.column.specs.Table.{input, row-count}
+use Rattle.partition.specs.Table.{input, row-count}
 use Rattle.evaluator.proofs.Calls.{call-refused, call-done, refuses, accepts}
 use Rattle.lead_lag.specs.declared.offset.Way.{Way}
 use Rattle.lead_lag.specs.Offset.{way-of}

@@ -1,0 +1,2 @@
+mod peers;
+pub mod whole;
