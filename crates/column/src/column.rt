@@ -1,4 +1,5 @@
 ghost use mathlib.Core.Path.{_≡_};
+ghost use mathlib.Core.Bool.{false};
 ghost use lib.ListN.{length, getD};
 ghost use Rattle.std.specs.declared.option.Option.the-variants.{None};
 ghost use Rattle.column.specs.Cells.{column-cells, same-cell, view};
@@ -23,14 +24,20 @@ pub struct Window<'a, K> {
     pub rows: Column<'a, K>,
 }
 
+// The mark of a row; past the end false.
+fn is_marked(marks: &[bool], row: usize) -> bool
+    ensures { λ r. ⌜ r ≡ getD (now (marks .entry)) row false ⌝ }
+{
+    row < marks.len() && marks[row]
+}
+
 impl<K: Kind> Column<'_, K> {
     // The cell of a row; past the end NULL.
     pub fn cell(&self, row: usize) -> Option<K>
         ensures { λ r. ⌜ r ≡ getD (column-cells (now (self .entry))) row None ⌝ }
     {
         let values = self.values;
-        let marks = self.marks;
-        if row < values.len() && row < marks.len() && marks[row] {
+        if row < values.len() && is_marked(self.marks, row) {
             return Some(values[row]);
         }
         None

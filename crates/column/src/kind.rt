@@ -17,7 +17,7 @@ pub trait Kind: Copy {
         ensures { λ r. ⌜ r ≡ same (now (self .entry)) (now (other .entry)) ⌝ };
 }
 
-// A point in time, or a span's end.
+// A point in time.
 #[derive(Clone, Copy, PartialEq, Eq, Debug)]
 pub struct Instant(pub i64);
 
@@ -30,7 +30,7 @@ pub impl Kind for Instant as InstantKind {
 }
 
 // Who logged in, without a name.
-#[derive(Clone, Copy, PartialEq, Eq, Debug)]
+#[derive(Clone, Copy)]
 pub struct Pseudonym {
     pub high: u64,
     pub low: u64,
@@ -45,7 +45,7 @@ pub impl Kind for Pseudonym as PseudonymKind {
 }
 
 // A college's code of up to eight bytes, the first byte highest, unused bytes 0.
-#[derive(Clone, Copy, PartialEq, Eq, Debug)]
+#[derive(Clone, Copy)]
 pub struct CollegeCode(pub u64);
 
 pub impl Kind for CollegeCode as CodeKind {
@@ -57,7 +57,7 @@ pub impl Kind for CollegeCode as CodeKind {
 }
 
 // How a login ended.
-#[derive(Clone, Copy, PartialEq, Eq, Debug)]
+#[derive(Clone, Copy)]
 pub enum LoginOutcome {
     Granted,
     // with the reason
@@ -79,7 +79,7 @@ pub impl Kind for LoginOutcome as OutcomeKind {
 }
 
 // A value of one kind beside a value of another.
-#[derive(Clone, Copy, PartialEq, Eq, Debug)]
+#[derive(Clone, Copy)]
 pub struct Pair<A, B> {
     pub first: A,
     pub second: B,

@@ -1,3 +1,5 @@
+// Ported from `lead_lag.rs` of the crate datafusion-functions-window 55.0.0 (Apache-2.0), and changed:
+// a count and the row of the oldest stand for the queue of distances between present rows.
 ghost use mathlib.Core.Path.{_≡_};
 ghost use Prim.Native.Nat.{_-_, _<_};
 ghost use Rattle.std.specs.shelf.Maps.{nth};
@@ -97,9 +99,9 @@ pub(crate) fn count_row<K: Kind>(m: usize, held: Held, window: &Window<'_, K>, n
 pub(crate) fn oldest_source(m: usize, held: Held) -> Option<usize>
     ensures { λ r. ⌜ r ≡ oldest-source m held ⌝ }
 {
-    if held.count < m {
-        None
-    } else {
+    if held.count >= m {
         Some(held.oldest)
+    } else {
+        None
     }
 }

@@ -1,3 +1,5 @@
+// Ported from `lead_lag.rs` of the crate datafusion-functions-window 55.0.0 (Apache-2.0), and changed:
+// the sign of an offset, without the planner's part.
 ghost use mathlib.Core.Path.{_≡_};
 ghost use Rattle.lead_lag.specs.Offset.{opposite, kind-offset, signed-offset, way-of};
 
