@@ -20,6 +20,24 @@ pub enum Fault {
     Absent(usize),
     // fewer output slots than rows; their number
     ShortOutput(usize),
+    // a wanted frame is absent; the next row
+    NoFrame(usize),
+    // the run is closed, and no row is left; its total
+    NoRowLeft(usize),
+    // the window begins above the keep mark; the mark
+    BeginsLate(usize),
+    // the run is closed, and the window ends above its total; the total
+    PastTotal(usize),
+    // a frame that may not come next; the next row
+    BadFrame(usize),
+    // the row is not settled; the next row
+    TooEarly(usize),
+    // the run is not set to frames that begin at 0; the next row
+    NotFromZero(usize),
+    // a total that may not close the run; the next row
+    BadTotal(usize),
+    // rows are unanswered; the next row
+    Unanswered(usize),
 }
 
 impl Fault {
@@ -36,6 +54,15 @@ impl Fault {
             Fault::BadGroups(_) => 8,
             Fault::Absent(_) => 10,
             Fault::ShortOutput(_) => 11,
+            Fault::NoFrame(_) => 12,
+            Fault::NoRowLeft(_) => 13,
+            Fault::BeginsLate(_) => 14,
+            Fault::PastTotal(_) => 15,
+            Fault::BadFrame(_) => 16,
+            Fault::TooEarly(_) => 17,
+            Fault::NotFromZero(_) => 18,
+            Fault::BadTotal(_) => 19,
+            Fault::Unanswered(_) => 20,
         }
     }
 
@@ -51,7 +78,16 @@ impl Fault {
             | Fault::BadFrames(n)
             | Fault::BadGroups(n)
             | Fault::Absent(n)
-            | Fault::ShortOutput(n) => *n,
+            | Fault::ShortOutput(n)
+            | Fault::NoFrame(n)
+            | Fault::NoRowLeft(n)
+            | Fault::BeginsLate(n)
+            | Fault::PastTotal(n)
+            | Fault::BadFrame(n)
+            | Fault::TooEarly(n)
+            | Fault::NotFromZero(n)
+            | Fault::BadTotal(n)
+            | Fault::Unanswered(n) => *n,
         }
     }
 }

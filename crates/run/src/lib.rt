@@ -1,0 +1,5 @@
+pub mod calls;
+mod progress;
+pub mod replay;
+pub mod rows;
+pub mod run;
