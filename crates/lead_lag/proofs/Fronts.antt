@@ -18,7 +18,7 @@ use Rattle.lead_lag.specs.declared.offset.Way.{Way}
 use Rattle.lead_lag.specs.declared.offset.Way.the-variants.{Own, Back, Ahead}
 use Rattle.lead_lag.specs.Present.{at, before, ahead, after}
 use Rattle.lead_lag.specs.Shift.{Proper, source-row, taken, shifted, reaches}
-use Rattle.lead_lag.proofs.Rows.{number-of, some-same}
+use Rattle.lead_lag.proofs.Counts.{number-of, some-same}
 use Rattle.lead_lag.proofs.Ahead.{ahead-number, ahead-longer, ahead-same, before-same, nth-within, within-nth, nth-has}
 
 -- xs are first rows of rows

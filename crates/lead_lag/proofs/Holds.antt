@@ -22,8 +22,8 @@ use Rattle.lead_lag.specs.declared.offset.Way.the-variants.{Own, Back, Ahead}
 use Rattle.lead_lag.specs.Present.{at, before, ahead}
 use Rattle.lead_lag.specs.Offset.{way-of}
 use Rattle.lead_lag.specs.Shift.{Proper, mark-at, mark-of, Counts, Holding, start}
-use Rattle.lead_lag.specs.Steps.{next-present, counted, passed, counted-row, oldest-source}
-use Rattle.lead_lag.proofs.Rows.{Number, number-of, found-by, count-present, count-grows, count-suc, never-some}
+use Rattle.lead_lag.specs.Steps.{next-present, counted, passed, counted-row, oldest-source, held-after}
+use Rattle.lead_lag.proofs.Counts.{Number, number-of, found-by, count-present, count-grows, count-suc, never-some}
 use Rattle.lead_lag.proofs.Ahead.{ahead-number, ahead-count, ahead-same, nth-within, count-more}
 
 -- the way of an offset is proper
@@ -138,3 +138,31 @@ held-source m h rows i p d =
     (λ lt. cond-true (ltb (h .count) m) None (Some (h .oldest)) (lt-ltb (h .count) m lt) ∙ sym (nth-past (before (at rows) i) (m - 1) (omega (arith, d .counts .0))))
     (λ ge. let e : h .count ≡ m = omega (arith, d .counts .0) in cond-false (ltb (h .count) m) None (Some (h .oldest)) (le-ltb (h .count) m ge) ∙ sym (subst (λ (n : ℕ). nth (before (at rows) i) (n - 1) ≡ Some (h .oldest)) e (d .counts .1 (omega arith))))
     (cases-lt (h .count) m)
+
+-- one row on, whatever the way
+pub holds-after : {V : Type 0} (way : Way) (ignoring : Bool) (h : Held) (rows : List (Option V)) (i : ℕ) (f : ℕ → Option V) → Proper way → Holding way ignoring h rows i → ((k : ℕ) → mark-of way ignoring h ≤ k → k ≤ i → f k ≡ at rows k) → Holding way ignoring (held-after way ignoring h f i) rows (i + 1)
+holds-after Own ignoring h rows i f p d agree = record { next-row = omega (arith, d .next-row); mark = omega (arith, d .next-row); counts = tt }
+holds-after (Ahead m) ignoring h rows i f p d agree = record { next-row = omega (arith, d .next-row); mark = omega (arith, d .next-row); counts = tt }
+holds-after (Back m) false h rows i f p d agree = record { next-row = omega (arith, d .next-row); mark = omega (arith, d .next-row); counts = tt }
+holds-after (Back m) true h rows i f p d agree = holds-on m h rows i f p d agree
+
+-- the mark never falls, whatever is shown
+rises : {V : Type 0} (f : ℕ → Option V) (o i : ℕ) → o ≤ next-present f o i
+rises f o i = rise (nth (ahead f (o + 1) (i - o)) 0) refl where
+  rise : (x : Option ℕ) → nth (ahead f (o + 1) (i - o)) 0 ≡ x → o ≤ valueOr x o
+  rise None e = omega arith
+  rise (Some r) e = omega (arith, ahead-number f (o + 1) (i - o) 0 r e .from)
+
+pub mark-rises : {V : Type 0} (way : Way) (ignoring : Bool) (h : Held) (f : ℕ → Option V) (i : ℕ) → mark-of way ignoring h ≤ mark-of way ignoring (held-after way ignoring h f i)
+mark-rises Own ignoring h f i = omega arith
+mark-rises (Ahead m) ignoring h f i = omega arith
+mark-rises (Back m) false h f i = omega arith
+mark-rises (Back m) true h f i =
+    ⊎-elim
+      (λ u. subst (λ (x : Held). mark-of (Back m) true h ≤ mark-of (Back m) true x) (sym (cond-true (isSome (f i)) (counted m h f i) (passed h i) u))
+        (⊎-elim
+          (λ t. omega (arith, cond-true (ltb (h .count) m) 0 (h .oldest) t))
+          (λ t. subst (λ (x : Held). mark-of (Back m) true h ≤ mark-of (Back m) true x) (sym (cond-false (ltb (h .count) m) _ _ t)) (omega (arith, rises f (h .oldest) i, cond-false (ltb (h .count) m) 0 (h .oldest) t, cond-false (ltb (h .count) m) 0 (next-present f (h .oldest) i) t)))
+          (cases-bool (ltb (h .count) m))))
+      (λ u. subst (λ (x : Held). mark-of (Back m) true h ≤ mark-of (Back m) true x) (sym (cond-false (isSome (f i)) (counted m h f i) (passed h i) u)) (omega arith))
+      (cases-bool (isSome (f i)))

@@ -6,14 +6,14 @@ ghost use Rattle.std.specs.shelf.Maps.{nth};
 ghost use Rattle.column.specs.Cells.{view};
 ghost use Rattle.column.specs.Refusal.{row-limit};
 ghost use Rattle.lead_lag.specs.Present.{ahead};
-ghost use Rattle.lead_lag.specs.Steps.{next-present, counted, counted-row, oldest-source};
+ghost use Rattle.lead_lag.specs.Steps.{next-present, counted, passed, counted-row, oldest-source};
 use column::column::Window;
 use column::kind::Kind;
 
 // The next row; looking back with NULLs ignored also how many present rows are counted, and the oldest of them.
 #[derive(Clone, Copy)]
 pub struct Held {
-    next: usize,
+    pub(crate) next: usize,
     count: usize,
     oldest: usize,
 }
@@ -25,6 +25,18 @@ impl Held {
         count: 0,
         oldest: 0,
     };
+
+    // Past a row that is not counted.
+    pub(crate) fn passed(self, next: usize) -> Held
+        requires { ⌜ next < row-limit ⌝ }
+        ensures { λ r. ⌜ r ≡ passed self next ⌝ }
+    {
+        Held {
+            next: self.next.max(next + 1),
+            count: self.count,
+            oldest: self.oldest,
+        }
+    }
 }
 
 // The m-th present row of those from `from` up to `end`, not included.
@@ -88,11 +100,7 @@ pub(crate) fn count_row<K: Kind>(m: usize, held: Held, window: &Window<'_, K>, n
     if window.cell(next).is_some() {
         return count_present(m, held, window, next);
     }
-    Held {
-        next: held.next.max(next + 1),
-        count: held.count,
-        oldest: held.oldest,
-    }
+    held.passed(next)
 }
 
 // The m-th present row back, once so many are counted.

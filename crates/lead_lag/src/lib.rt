@@ -3,24 +3,34 @@
 // stands for the queue of distances between present rows.
 ghost use mathlib.Core.Path.{_≡_};
 ghost use mathlib.Core.Bool.{false};
+ghost use Rattle.run.specs.Rows.{Handed, RowCall};
 ghost use Rattle.lead_lag.specs.Cases.{Cases};
 ghost use Rattle.lead_lag.specs.Shift.{shift-meaning, shift-renewed, making};
 
 mod held;
 pub mod offset;
+mod rows;
 mod whole;
 
 use crate::held::Held;
 use crate::offset::WindowShiftKind;
 use crate::offset::look;
 use crate::offset::signed_offset;
+use crate::rows::mark;
+use crate::rows::must_wait;
+use crate::rows::source;
+use crate::rows::step;
+use crate::whole::take_cell;
 use crate::whole::write_all;
+use column::column::Window;
 use column::fault::Fault;
 use column::kind::Kind;
 use column::output::Output;
 use evaluator::evaluator::Evaluator;
 use evaluator::utils::Argument;
 use evaluator::utils::get_signed_integer;
+use run::rows::RowEvaluator;
+use run::rows::Turn;
 use partition::whole::WholePartition;
 use partition::whole::check_whole;
 
@@ -56,6 +66,30 @@ impl<K: Kind> WindowShift<K> {
             default_value,
             held: Held::START,
         })
+    }
+
+    // The answer of row `next`, as far as the window settles it.
+    fn answer_row(
+        &mut self,
+        next: usize,
+        window: &Window<'_, K>,
+        known: bool,
+    ) -> Result<Option<K>, Fault>
+        requires { ⌜ Handed false (shift-meaning (now self) .keep) (now window) (0, 0) known ⌝ }
+        ensures { λ r. ⌜ RowCall shift-meaning false next (now (window .entry)) (0, 0) known (now (self .entry)) (now (self .exit)) r ⌝ }
+    {
+        let end = window.begin + window.rows.values.len();
+        if next >= end {
+            return Err(Fault::TooEarly(next));
+        }
+        let way = look(self.shift_offset);
+        let row = source(way, self.ignore_nulls, self.held, window, next, end);
+        if must_wait(way, row, known) {
+            return Err(Fault::TooEarly(next));
+        }
+        let answer = take_cell(window, self.default_value, row);
+        self.held = step(way, self.ignore_nulls, self.held, window, next);
+        Ok(answer)
     }
 }
 
@@ -107,6 +141,18 @@ pub impl<K: Kind> Evaluator for WindowShift<K> as WindowShiftEvaluator {
             out,
         );
         Ok(())
+    }
+}
+
+pub impl<K: Kind> RowEvaluator for WindowShift<K> as WindowShiftRows {
+    fn row(&mut self, turn: &Turn<'_, K>) -> Result<Option<K>, Fault> {
+        self.answer_row(turn.next(), &turn.window(), turn.known())
+    }
+
+    fn settle(&mut self, _next: usize, _last: (usize, usize)) {}
+
+    fn keep_mark(&self) -> usize {
+        mark(look(self.shift_offset), self.ignore_nulls, self.held)
     }
 }
 

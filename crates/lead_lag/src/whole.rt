@@ -22,7 +22,7 @@ use column::kind::Kind;
 use column::output::Output;
 
 // The row so many rows off row `i`, if it is one of the `n` rows.
-fn row_off(way: Way, n: usize, i: usize) -> Option<usize>
+pub(crate) fn row_off(way: Way, n: usize, i: usize) -> Option<usize>
     requires { ⌜ i < n ⌝ }
     ensures { λ r. ⌜ r ≡ row-off way n i ⌝ }
 {
@@ -34,7 +34,7 @@ fn row_off(way: Way, n: usize, i: usize) -> Option<usize>
 }
 
 // The cell of the source row, or the default.
-fn take_cell<K: Kind>(
+pub(crate) fn take_cell<K: Kind>(
     window: &Window<'_, K>,
     default: Option<K>,
     source: Option<usize>,

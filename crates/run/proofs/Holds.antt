@@ -22,7 +22,7 @@ use Rattle.run.specs.Shown.{Framed, end-of, based}
 use Rattle.evaluator.specs.Meaning.{Meaning, Alike, Laws, settles}
 use Rattle.run.specs.Table.{is-total}
 use Rattle.run.specs.History.{Event, history, answered, accepted, last-frame, frame-of, total-of, total-after, progress-at, Ruled, ShownBy, Shown, AsWhole, Marked, Replayed}
-use Rattle.run.specs.Act.{Acted, Does, evaluator-of, progress-of, total-now}
+use Rattle.run.specs.Act.{Acted, Ended, Does, evaluator-of, progress-of, total-now}
 use Rattle.run.proofs.Splits.{split-push, never-nil, accepted-push, last-push, total-push, history-push}
 use Rattle.run.proofs.Asks.{Kept}
 use Rattle.run.proofs.Steps.{after, Stays, Step, alike-step, step}
@@ -133,6 +133,12 @@ turns meaning law e₀ wants z s s′ calls i call notes notes′ n o lt is a e 
     let same : history (take (i + 1) calls) notes′ ≡ history (take i calls) notes ++ (call, n) ∷ [] = ap (λ x. history x notes′) taken ∙ (ap (λ x. history (take i calls ++ call ∷ []) x) e ∙ history-push (take i calls) notes call n (length-take-le i calls (omega arith) ∙ sym (o .1))) in
     (subst (λ x. Stands meaning e₀ wants z s′ x) (sym same) (moves meaning law e₀ wants z s s′ (history (take i calls) notes) call n (o .0) a), ap length e ∙ (length-push notes n ∙ ap (λ (k : ℕ). k + 1) (o .1)))
 
-pub ends : {V A S : Type 0} (meaning : S → Meaning V A) (d e₀ : S) (wants z : Bool) (s : Run S) (calls : List (Call V)) (i : ℕ) (notes : List (Entry A)) → Alike (meaning d) (meaning e₀) → Stands meaning e₀ wants z s (history (take i calls) notes) × (length notes ≡ i) → i ≡ length calls → (length notes ≡ length calls) × Replayed meaning d wants z (history calls notes)
+pub ends : {V A S : Type 0} (meaning : S → Meaning V A) (d e₀ : S) (wants z : Bool) (s : Run S) (calls : List (Call V)) (i : ℕ) (notes : List (Entry A)) → Alike (meaning d) (meaning e₀) → Stands meaning e₀ wants z s (history (take i calls) notes) × (length notes ≡ i) → i ≡ length calls → (length notes ≡ length calls) × Replayed meaning d wants z (history calls notes) × Ended meaning d wants z s (history calls notes)
 ends meaning d e₀ wants z s calls i notes a o e =
-    (o .1 ∙ e, replayed-alike meaning d e₀ a wants z (history calls notes) (subst (λ x. Replayed meaning e₀ wants z (history x notes)) (take-all i calls (omega arith)) (o .0 .holds .replayed)))
+    let st = subst (λ x. Stands meaning e₀ wants z s (history x notes)) (take-all i calls (omega arith)) (o .0) in
+    (o .1 ∙ e, replayed-alike meaning d e₀ a wants z (history calls notes) (st .holds .replayed), record {
+      progress = st .progress;
+      total = st .total;
+      alike = alike-step (meaning d) (meaning e₀) (meaning (evaluator-of s)) a (st .holds .alike);
+      stands = λ p sh. st .holds .kept p sh .1;
+    })

@@ -2,6 +2,7 @@
 use Prim.Native.Nat.{ℕ}
 use mathlib.Core.Path.{_≡_}
 use mathlib.Core.Bool.{Bool}
+use mathlib.Core.List.{List}
 use Rattle.std.specs.declared.option.Option.{Option}
 use Rattle.std.specs.declared.option.Option.the-variants.{None, Some}
 use Rattle.std.specs.declared.result.Result.{Result}
@@ -17,9 +18,10 @@ use Rattle.run.specs.declared.calls.Outcome.the-variants.{Answer, Refused, Don
 use Rattle.run.specs.declared.calls.Entry.{Entry}
 use Rattle.run.specs.declared.run.Run.{Run}
 use Rattle.run.specs.declared.run.Run.the-variants.{Opened, Shut}
-use Rattle.evaluator.specs.Meaning.{Meaning}
+use Rattle.evaluator.specs.Meaning.{Partition, Meaning, Alike}
 use Rattle.run.specs.Run.{Requested, Settled}
-use Rattle.run.specs.History.{total-after, close-outcome}
+use Rattle.run.specs.Shown.{based}
+use Rattle.run.specs.History.{Event, Shown, accepted, progress-at, total-of, total-after, close-outcome}
 
 abbrev pub evaluator-of : {S : Type 0} → Run S → S
 evaluator-of (Opened o) = o .evaluator
@@ -52,3 +54,13 @@ pub record Acted {V A S : Type 0} (meaning : S → Meaning V A) (wants : Bool) (
   pub mark : n .mark ≡ meaning (evaluator-of s) .keep
   pub total : total-now s′ ≡ total-after (total-now s) c (n .outcome)
   pub does : Does meaning wants (total-now s) c (evaluator-of s) (evaluator-of s′) (progress-of s) (progress-of s′) (n .outcome)
+
+-- what a run of the evaluator e holds after this history
+pub record Ended {V A S : Type 0} (meaning : S → Meaning V A) (e : S) (wants from-zero : Bool) (s : Run S) (h : List (Event V A)) : Type 0 where
+  -- the accepted requests, the latest wanted frame and the setting
+  pub progress : progress-of s ≡ progress-at wants from-zero h
+  -- the total of the accepted close
+  pub total : total-now s ≡ total-of None h
+  pub alike : Alike (meaning e) (meaning (evaluator-of s))
+  -- it stands at the next row of every partition that the history shows
+  pub stands : (p : Partition V) → Shown wants p h → meaning (evaluator-of s) .stands (based from-zero p) (accepted h)

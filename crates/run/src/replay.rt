@@ -2,7 +2,7 @@ ghost use mathlib.Core.Path.{_≡_};
 ghost use lib.ListN.{length};
 ghost use Rattle.std.specs.Vec.{made};
 ghost use Rattle.std.specs.Of.Vec.{vec-items};
-ghost use Rattle.run.specs.Act.{Acted};
+ghost use Rattle.run.specs.Act.{Acted, Ended};
 ghost use Rattle.run.specs.History.{Replayed, history};
 ghost use Rattle.run.specs.declared.run.Run.the-variants.{Opened, Shut};
 use crate::calls::Call;
@@ -95,21 +95,28 @@ fn act<E: RowEvaluator>(run: Run<E>, call: &Call<'_, E::Value>) -> (Run<E>, Entr
     }
 }
 
-// Makes a run of the evaluator, makes the calls on it one by one, and notes what comes of each.
+// A run after a list of calls, and what came of each.
+#[derive(Drop)]
+pub struct Played<E, A> {
+    pub run: Run<E>,
+    pub entries: Vec<Entry<A>>,
+}
+
+// Makes a new run of the evaluator, makes the calls on it one by one, and notes what comes of each.
 pub fn replay<E: RowEvaluator + Drop>(
     heap: Global,
     evaluator: &E,
     from_zero: bool,
     calls: &[Call<'_, E::Value>],
-) -> Result<Vec<Entry<E::Answer>>, AllocError>
-    ensures { λ r. ⌜ made r (λ v. (length (vec-items v) ≡ length (now (calls .entry))) × Replayed (E·Evaluator .meaning) (now (evaluator .entry)) (E·Evaluator .frames) «from_zero» (history (now (calls .entry)) (vec-items v))) ⌝ }
+) -> Result<Played<E, E::Answer>, AllocError>
+    ensures { λ r. ⌜ made r (λ x. (length (vec-items (x .entries)) ≡ length (now (calls .entry))) × Replayed (E·Evaluator .meaning) (now (evaluator .entry)) (E·Evaluator .frames) «from_zero» (history (now (calls .entry)) (vec-items (x .entries))) × Ended (E·Evaluator .meaning) (now (evaluator .entry)) (E·Evaluator .frames) «from_zero» (x .run) (history (now (calls .entry)) (vec-items (x .entries)))) ⌝ }
 {
     let mut run = Run::Opened(Open::new(evaluator, from_zero));
-    let mut notes = Vec::new(heap);
+    let mut entries = Vec::new(heap);
     for call in calls {
         let (moved, entry) = act(run, call);
         run = moved;
-        notes.push(entry)?;
+        entries.push(entry)?;
     }
-    Ok(notes)
+    Ok(Played { run, entries })
 }

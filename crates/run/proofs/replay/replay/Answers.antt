@@ -17,7 +17,7 @@ loop-call-holds g c = (
     total = refl;
     holds = start (g .E·Evaluator .meaning) (c .new .result .evaluator) (g .E·Evaluator .frames) (c .args .from-zero) (c .new .result .evaluator) (alike-refl (g .E·Evaluator .meaning (c .new .result .evaluator))) (c .new .ensures .stands);
   },
-  ap length (c .new-notes .ensures .items),
+  ap length (c .new-entries .ensures .items),
 )
 
 pub returns-in-Break-push : need.returns-in-Break-push
@@ -25,8 +25,8 @@ returns-in-Break-push g c = let p = err-from-errBy (c .from-residual .result) (c
 
 pub loop-call-again : need.loop-call-again
 loop-call-again g c =
-    turns (g .E·Evaluator .meaning) (g .E·Evaluator·met .lawful) (c .new .result .evaluator) (g .E·Evaluator .frames) (c .args .from-zero) (c .loop-call .run) (c .act-moved .result .0) (c .args .calls .now) (c .loop-call .call-index) (c .call-item .result) (vec-items (c .loop-call .notes)) (vec-items (c .push .last .self)) (c .act-moved .result .1) (c .loop-call .inv) (c .loop-call-test .taken) (c .call-item .is) (c .act-moved .ensures) (c .in-Continue-push .ensures tt .items)
+    turns (g .E·Evaluator .meaning) (g .E·Evaluator·met .lawful) (c .new .result .evaluator) (g .E·Evaluator .frames) (c .args .from-zero) (c .loop-call .run) (c .act-moved .result .0) (c .args .calls .now) (c .loop-call .call-index) (c .call-item .result) (vec-items (c .loop-call .entries)) (vec-items (c .push .last .self)) (c .act-moved .result .1) (c .loop-call .inv) (c .loop-call-test .taken) (c .call-item .is) (c .act-moved .ensures) (c .in-Continue-push .ensures tt .items)
 
 pub returns : need.returns
 returns g c =
-    ends (g .E·Evaluator .meaning) (c .args .evaluator .now) (c .new .result .evaluator) (g .E·Evaluator .frames) (c .args .from-zero) (c .loop-call .run) (c .args .calls .now) (c .loop-call .call-index) (vec-items (c .loop-call .notes)) (c .new .ensures .alike) (c .loop-call .inv) (omega arith)
+    ends (g .E·Evaluator .meaning) (c .args .evaluator .now) (c .new .result .evaluator) (g .E·Evaluator .frames) (c .args .from-zero) (c .loop-call .run) (c .args .calls .now) (c .loop-call .call-index) (vec-items (c .loop-call .entries)) (c .new .ensures .alike) (c .loop-call .inv) (omega arith)

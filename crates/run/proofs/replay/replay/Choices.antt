@@ -7,4 +7,4 @@ use Rattle.run.proofs.Holds.{Stands}
 use Rattle.run.proofs.replay.replay.Given as given
 
 abbrev pub Inv-loop-call : given.InvT-loop-call
-Inv-loop-call g l = Stands (g .E·Evaluator .meaning) (evaluator-of (l .entry .run)) (g .E·Evaluator .frames) (l .from-zero) (l .run) (history (take (l .call-index) (l .calls)) (vec-items (l .notes))) × (length (vec-items (l .notes)) ≡ l .call-index)
+Inv-loop-call g l = Stands (g .E·Evaluator .meaning) (evaluator-of (l .entry .run)) (g .E·Evaluator .frames) (l .from-zero) (l .run) (history (take (l .call-index) (l .calls)) (vec-items (l .entries))) × (length (vec-items (l .entries)) ≡ l .call-index)
