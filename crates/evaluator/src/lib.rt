@@ -1,3 +1,4 @@
 pub mod cells;
 pub mod evaluator;
+pub mod mirror;
 pub mod utils;

@@ -5,3 +5,4 @@ pub mod Fronts
 pub mod Lawful
 pub mod Columns
 pub mod Calls
+pub mod Turned

@@ -21,7 +21,7 @@ use Rattle.lead_lag.specs.declared.WindowShift.{WindowShift}
 use Rattle.lead_lag.specs.declared.offset.WindowShiftKind.{WindowShiftKind}
 use Rattle.lead_lag.specs.declared.offset.Way.{Way}
 use Rattle.lead_lag.specs.declared.offset.Way.the-variants.{Own, Back, Ahead}
-use Rattle.lead_lag.specs.Offset.{signed-offset, way-of}
+use Rattle.lead_lag.specs.Offset.{opposite, signed-offset, way-of}
 use Rattle.lead_lag.specs.Present.{at, before, after}
 
 -- a way looks at least one row off, or at the row itself
@@ -110,6 +110,10 @@ start = record { next = 0; count = 0; oldest = 0 }
 -- the same shift, holding nothing
 abbrev pub shift-renewed : {V : Type 0} → WindowShift V → WindowShift V
 shift-renewed e = record { «shift_offset» = e .«shift_offset»; «ignore_nulls» = e .«ignore_nulls»; «default_value» = e .«default_value»; held = start }
+
+-- the same shift from the other end: the opposite offset, holding nothing
+abbrev pub shift-mirrored : {V : Type 0} → WindowShift V → WindowShift V
+shift-mirrored e = record { «shift_offset» = opposite (e .«shift_offset»); «ignore_nulls» = e .«ignore_nulls»; «default_value» = e .«default_value»; held = start }
 
 -- a new shift, or the refusal of its argument
 abbrev pub made-by : {V : Type 0} → WindowShiftKind → Bool → Bool → Option V → Result (Option ℤ) Fault → Result (WindowShift V) Fault

@@ -5,7 +5,7 @@ ghost use mathlib.Core.Path.{_≡_};
 ghost use mathlib.Core.Bool.{false};
 ghost use Rattle.run.specs.Rows.{Handed, RowCall};
 ghost use Rattle.lead_lag.specs.Cases.{Cases};
-ghost use Rattle.lead_lag.specs.Shift.{shift-meaning, shift-renewed, making};
+ghost use Rattle.lead_lag.specs.Shift.{shift-meaning, shift-renewed, shift-mirrored, making};
 
 mod held;
 pub mod offset;
@@ -15,6 +15,7 @@ mod whole;
 use crate::held::Held;
 use crate::offset::WindowShiftKind;
 use crate::offset::look;
+use crate::offset::opposite;
 use crate::offset::signed_offset;
 use crate::rows::mark;
 use crate::rows::must_wait;
@@ -27,6 +28,7 @@ use column::fault::Fault;
 use column::kind::Kind;
 use column::output::Output;
 use evaluator::evaluator::Evaluator;
+use evaluator::mirror::MirrorEvaluator;
 use evaluator::utils::Argument;
 use evaluator::utils::get_signed_integer;
 use run::rows::RowEvaluator;
@@ -153,6 +155,19 @@ pub impl<K: Kind> RowEvaluator for WindowShift<K> as WindowShiftRows {
 
     fn keep_mark(&self) -> usize {
         mark(look(self.shift_offset), self.ignore_nulls, self.held)
+    }
+}
+
+pub impl<K: Kind> MirrorEvaluator for WindowShift<K> as WindowShiftMirror {
+    ghost mirrored = { shift-mirrored };
+
+    fn mirror(&self) -> WindowShift<K> {
+        WindowShift {
+            shift_offset: opposite(self.shift_offset),
+            ignore_nulls: self.ignore_nulls,
+            default_value: self.default_value,
+            held: Held::START,
+        }
     }
 }
 
