@@ -107,13 +107,17 @@ shift-meaning e = record {
 abbrev pub start : Held
 start = record { next = 0; count = 0; oldest = 0 }
 
+-- the same shift with another offset, holding nothing
+abbrev pub renewed-with : {V : Type 0} → ℤ → WindowShift V → WindowShift V
+renewed-with z e = record { «shift_offset» = z; «ignore_nulls» = e .«ignore_nulls»; «default_value» = e .«default_value»; held = start }
+
 -- the same shift, holding nothing
 abbrev pub shift-renewed : {V : Type 0} → WindowShift V → WindowShift V
-shift-renewed e = record { «shift_offset» = e .«shift_offset»; «ignore_nulls» = e .«ignore_nulls»; «default_value» = e .«default_value»; held = start }
+shift-renewed e = renewed-with (e .«shift_offset») e
 
--- the same shift from the other end: the opposite offset, holding nothing
+-- the same shift from the other end: the opposite offset
 abbrev pub shift-mirrored : {V : Type 0} → WindowShift V → WindowShift V
-shift-mirrored e = record { «shift_offset» = opposite (e .«shift_offset»); «ignore_nulls» = e .«ignore_nulls»; «default_value» = e .«default_value»; held = start }
+shift-mirrored e = renewed-with (opposite (e .«shift_offset»)) e
 
 -- a new shift, or the refusal of its argument
 abbrev pub made-by : {V : Type 0} → WindowShiftKind → Bool → Bool → Option V → Result (Option ℤ) Fault → Result (WindowShift V) Fault

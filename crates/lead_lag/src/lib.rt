@@ -3,9 +3,11 @@
 // stands for the queue of distances between present rows.
 ghost use mathlib.Core.Path.{_≡_};
 ghost use mathlib.Core.Bool.{false};
+ghost use mir.Syntax.{w64};
+ghost use mir.Val.{SFits};
 ghost use Rattle.run.specs.Rows.{Handed, RowCall};
 ghost use Rattle.lead_lag.specs.Cases.{Cases};
-ghost use Rattle.lead_lag.specs.Shift.{shift-meaning, shift-renewed, shift-mirrored, making};
+ghost use Rattle.lead_lag.specs.Shift.{shift-meaning, renewed-with, shift-renewed, shift-mirrored, making};
 
 mod held;
 pub mod offset;
@@ -70,6 +72,26 @@ impl<K: Kind> WindowShift<K> {
         })
     }
 
+    // The same shift with this offset, holding nothing.
+    fn renewed(&self, shift_offset: i64) -> WindowShift<K>
+        ensures { λ r. ⌜ r ≡ renewed-with «shift_offset» (now (self .entry)) ⌝ }
+    {
+        WindowShift {
+            shift_offset,
+            ignore_nulls: self.ignore_nulls,
+            default_value: self.default_value,
+            held: Held::START,
+        }
+    }
+
+    // The same shift from the other end of a partition.
+    fn turned(&self) -> WindowShift<K>
+        ensures is { λ r. ⌜ r ≡ shift-mirrored (now (self .entry)) ⌝ }
+        ensures fits { λ _. ⌜ SFits w64 (now (self .entry) .«shift_offset») ⌝ }
+    {
+        self.renewed(opposite(self.shift_offset))
+    }
+
     // The answer of row `next`, as far as the window settles it.
     fn answer_row(
         &mut self,
@@ -121,12 +143,7 @@ pub impl<K: Kind> Evaluator for WindowShift<K> as WindowShiftEvaluator {
     }
 
     fn fresh(&self) -> WindowShift<K> {
-        WindowShift {
-            shift_offset: self.shift_offset,
-            ignore_nulls: self.ignore_nulls,
-            default_value: self.default_value,
-            held: Held::START,
-        }
+        self.renewed(self.shift_offset)
     }
 
     fn evaluate_all<O: Output<Option<K>>>(
@@ -162,12 +179,7 @@ pub impl<K: Kind> MirrorEvaluator for WindowShift<K> as WindowShiftMirror {
     ghost mirrored = { shift-mirrored };
 
     fn mirror(&self) -> WindowShift<K> {
-        WindowShift {
-            shift_offset: opposite(self.shift_offset),
-            ignore_nulls: self.ignore_nulls,
-            default_value: self.default_value,
-            held: Held::START,
-        }
+        self.turned()
     }
 }
 

@@ -1,11 +1,9 @@
 use Prim.Native.Nat.{_-_}
 use mathlib.Core.Path.{_≡_, refl, sym, _∙_, ap, subst}
 use mathlib.Core.Bool.{Bool, false}
-use borrow.Author.Needs.{needs}
 use lib.IntN.{ℤ}
 use mir.Syntax.{w64}
 use mir.Val.{SFits}
-use Rattle.std.proofs.shelf.Signed.{toZ-ofZ}
 use Rattle.partition.specs.Table.{row-count}
 use Rattle.evaluator.specs.Meaning.{partition}
 use Rattle.evaluator.specs.Mirror.{Mirror, turned}
@@ -28,8 +26,4 @@ module _ {V : Type 0} (same : V → V → Bool) (e : WindowShift V) (f : SFits w
   }
 
 pub returns : need.returns
-returns g c =
-    let f : SFits w64 (c .args .self .now .«shift_offset») = search needs in
-    let h : SFits w64 (c .opposite .result) = search needs in
-    let q = toZ-ofZ w64 (c .opposite .result) h ∙ c .opposite .ensures ∙ ap opposite (toZ-ofZ w64 (c .args .self .now .«shift_offset») f) in
-    mirrors (g .K·Kind .same) (c .args .self .now) f _ (ap (λ (z : ℤ). record { «shift_offset» = z; «ignore_nulls» = c .args .self .now .«ignore_nulls»; «default_value» = c .args .self .now .«default_value»; held = start }) q)
+returns g c = mirrors (g .K·Kind .same) (c .args .self .now) (c .turned .ensures .fits) (c .turned .result) (c .turned .ensures .is)
