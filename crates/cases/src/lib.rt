@@ -3,4 +3,6 @@ mod kinds;
 #[cfg(test)]
 mod refusals;
 #[cfg(test)]
+mod runs;
+#[cfg(test)]
 mod shifts;

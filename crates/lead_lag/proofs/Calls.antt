@@ -134,9 +134,9 @@ module _ {V : Type 0} (e : WindowShift V) (i : ℕ) (w : Window V) (frame : Fram
   source-whole : waits way source known ≡ false → source ≡ source-row way ignoring (p .rows) i
   source-whole y =
       source-is ∙ ⊎-elim
-        (λ k. ap (λ xs. source-row way ignoring xs i) (take-all (end-of w) (p .rows) (omega (arith, q .total (subst T (sym k) tt)))))
-        (λ k. source-front front (p .rows) (front-take (end-of w) (p .rows)) i (omega (arith, long)) way ignoring (way-proper (e .«shift_offset»)) (reached known (reaches way ignoring front i) (sym waiting ∙ y) k))
-        (cases-bool known)
+      (λ k. ap (λ xs. source-row way ignoring xs i) (take-all (end-of w) (p .rows) (omega (arith, q .total (subst T (sym k) tt)))))
+      (λ k. source-front front (p .rows) (front-take (end-of w) (p .rows)) i (omega (arith, long)) way ignoring (way-proper (e .«shift_offset»)) (reached known (reaches way ignoring front i) (sym waiting ∙ y) k))
+      (cases-bool known)
 
   answer-is : waits way source known ≡ false → taken (view w) (e .«default_value») source ≡ shifted way ignoring (e .«default_value») (p .rows) i
   answer-is y =

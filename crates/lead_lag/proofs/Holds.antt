@@ -159,10 +159,10 @@ mark-rises (Ahead m) ignoring h f i = omega arith
 mark-rises (Back m) false h f i = omega arith
 mark-rises (Back m) true h f i =
     ⊎-elim
-      (λ u. subst (λ (x : Held). mark-of (Back m) true h ≤ mark-of (Back m) true x) (sym (cond-true (isSome (f i)) (counted m h f i) (passed h i) u))
-        (⊎-elim
-          (λ t. omega (arith, cond-true (ltb (h .count) m) 0 (h .oldest) t))
-          (λ t. subst (λ (x : Held). mark-of (Back m) true h ≤ mark-of (Back m) true x) (sym (cond-false (ltb (h .count) m) _ _ t)) (omega (arith, rises f (h .oldest) i, cond-false (ltb (h .count) m) 0 (h .oldest) t, cond-false (ltb (h .count) m) 0 (next-present f (h .oldest) i) t)))
-          (cases-bool (ltb (h .count) m))))
-      (λ u. subst (λ (x : Held). mark-of (Back m) true h ≤ mark-of (Back m) true x) (sym (cond-false (isSome (f i)) (counted m h f i) (passed h i) u)) (omega arith))
-      (cases-bool (isSome (f i)))
+    (λ u. subst (λ (x : Held). mark-of (Back m) true h ≤ mark-of (Back m) true x) (sym (cond-true (isSome (f i)) (counted m h f i) (passed h i) u))
+    (⊎-elim
+    (λ t. omega (arith, cond-true (ltb (h .count) m) 0 (h .oldest) t))
+    (λ t. subst (λ (x : Held). mark-of (Back m) true h ≤ mark-of (Back m) true x) (sym (cond-false (ltb (h .count) m) _ _ t)) (omega (arith, rises f (h .oldest) i, cond-false (ltb (h .count) m) 0 (h .oldest) t, cond-false (ltb (h .count) m) 0 (next-present f (h .oldest) i) t)))
+    (cases-bool (ltb (h .count) m))))
+    (λ u. subst (λ (x : Held). mark-of (Back m) true h ≤ mark-of (Back m) true x) (sym (cond-false (isSome (f i)) (counted m h f i) (passed h i) u)) (omega arith))
+    (cases-bool (isSome (f i)))

@@ -161,6 +161,7 @@ far true cs i l = nth-past (after cs i) 9223372036854775807 (omega (arith, ahead
     most-step : (b : Bool) (x : ℕ) (xs : List ℕ) (m : ℕ) → length xs ≤ m → length (cond b (x ∷ xs) xs) ≤ suc m
     most-step true x xs m h = omega arith
     most-step false x xs m h = omega arith
+
     ahead-most : {W : Type 0} (f : ℕ → Option W) (k m : ℕ) → length (ahead f k m) ≤ m
     ahead-most f k zero = omega arith
     ahead-most f k (suc m) = most-step (isSome (f k)) k (ahead f (k + 1) m) m (ahead-most f (k + 1) m)
@@ -170,7 +171,7 @@ pub shifted-turned : {V : Type 0} (z : ℤ) (ignoring : Bool) (d : Option V) (cs
 shifted-turned z ignoring d cs i f h l = ⊎-elim
     (λ e. ap (λ (y : ℤ). shifted (way-of y) ignoring d (reverse cs) (turn (length cs) i)) e ∙ (ap (λ (w : Way). shifted w ignoring d (reverse cs) (turn (length cs) i)) (negated-way z) ∙ way-turned (way-of z) ignoring d cs i (way-proper z) h))
     (λ p.
-      let a : shifted (way-of (opposite z)) ignoring d (reverse cs) (turn (length cs) i) ≡ d = ap (λ (y : ℤ). shifted (way-of y) ignoring d (reverse cs) (turn (length cs) i)) (p .1 ∙ p .0) ∙ ap (taken (at (reverse cs)) d) (far ignoring (reverse cs) (turn (length cs) i) (omega (arith, length-reverse cs))) in
-      let b : shifted (way-of z) ignoring d cs i ≡ d = ap (λ (y : ℤ). shifted (way-of y) ignoring d cs i) (p .0) ∙ ap (taken (at cs) d) (far ignoring cs i l) in
-      a ∙ sym b)
+    let a : shifted (way-of (opposite z)) ignoring d (reverse cs) (turn (length cs) i) ≡ d = ap (λ (y : ℤ). shifted (way-of y) ignoring d (reverse cs) (turn (length cs) i)) (p .1 ∙ p .0) ∙ ap (taken (at (reverse cs)) d) (far ignoring (reverse cs) (turn (length cs) i) (omega (arith, length-reverse cs))) in
+    let b : shifted (way-of z) ignoring d cs i ≡ d = ap (λ (y : ℤ). shifted (way-of y) ignoring d cs i) (p .0) ∙ ap (taken (at cs) d) (far ignoring cs i l) in
+    a ∙ sym b)
     (opposite-is z f)

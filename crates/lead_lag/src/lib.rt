@@ -33,10 +33,10 @@ use evaluator::evaluator::Evaluator;
 use evaluator::mirror::MirrorEvaluator;
 use evaluator::utils::Argument;
 use evaluator::utils::get_signed_integer;
-use run::rows::RowEvaluator;
-use run::rows::Turn;
 use partition::whole::WholePartition;
 use partition::whole::check_whole;
+use run::rows::RowEvaluator;
+use run::rows::Turn;
 
 const FRAMES: bool = false;
 

@@ -135,10 +135,13 @@ turns meaning law e₀ wants z s s′ calls i call notes notes′ n o lt is a e 
 
 pub ends : {V A S : Type 0} (meaning : S → Meaning V A) (d e₀ : S) (wants z : Bool) (s : Run S) (calls : List (Call V)) (i : ℕ) (notes : List (Entry A)) → Alike (meaning d) (meaning e₀) → Stands meaning e₀ wants z s (history (take i calls) notes) × (length notes ≡ i) → i ≡ length calls → (length notes ≡ length calls) × Replayed meaning d wants z (history calls notes) × Ended meaning d wants z s (history calls notes)
 ends meaning d e₀ wants z s calls i notes a o e =
-    let st = subst (λ x. Stands meaning e₀ wants z s (history x notes)) (take-all i calls (omega arith)) (o .0) in
-    (o .1 ∙ e, replayed-alike meaning d e₀ a wants z (history calls notes) (st .holds .replayed), record {
-      progress = st .progress;
-      total = st .total;
-      alike = alike-step (meaning d) (meaning e₀) (meaning (evaluator-of s)) a (st .holds .alike);
-      stands = λ p sh. st .holds .kept p sh .1;
-    })
+    let st = subst (λ x. Stands meaning e₀ wants z s (history x notes)) (take-all i calls (omega arith)) (o .0) in (
+      o .1 ∙ e,
+      replayed-alike meaning d e₀ a wants z (history calls notes) (st .holds .replayed),
+      record {
+        progress = st .progress;
+        total = st .total;
+        alike = alike-step (meaning d) (meaning e₀) (meaning (evaluator-of s)) a (st .holds .alike);
+        stands = λ p sh. st .holds .kept p sh .1;
+      },
+    )

@@ -8,9 +8,8 @@ ghost use Rattle.run.specs.declared.run.Run.the-variants.{Opened, Shut};
 use crate::calls::Call;
 use crate::calls::Entry;
 use crate::calls::Outcome;
-
-use crate::run::Closed;
 use crate::rows::RowEvaluator;
+use crate::run::Closed;
 use crate::run::Open;
 use crate::run::Run;
 use std::alloc::AllocError;

@@ -131,7 +131,10 @@ impl<E: RowEvaluator> Open<E> {
         if total < self.progress.next || total < self.progress.last.1 || total > ROW_LIMIT {
             return Err((Fault::BadTotal(self.progress.next), self));
         }
-        let Open { evaluator, progress } = self;
+        let Open {
+            evaluator,
+            progress,
+        } = self;
         Ok(Closed {
             evaluator,
             progress,
