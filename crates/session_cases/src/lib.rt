@@ -1,0 +1,3 @@
+// What the reports and refusals of small files say.
+#[cfg(test)]
+mod tests;

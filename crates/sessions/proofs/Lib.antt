@@ -1,0 +1,9 @@
+mod Gathers
+mod Groups
+mod Headers
+mod Lags
+mod Lines
+mod Numbers
+mod Present
+mod Pushes
+mod Texts

@@ -1,0 +1,5 @@
+pub mod Header
+pub mod Names
+pub mod Reading
+pub mod Report
+pub mod Sessions
