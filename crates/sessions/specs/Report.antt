@@ -10,7 +10,7 @@ use Rattle.std.specs.declared.option.Option.{Option}
 use Rattle.std.specs.declared.option.Option.the-variants.{None, Some}
 use Rattle.sessions.specs.declared.record.Record.{Record}
 use Rattle.sessions.specs.declared.columns.Columns.{Columns}
-use Rattle.sessions.specs.Reading.{FromHeader, FromLines}
+use Rattle.sessions.specs.Reading.{IsTable}
 use Rattle.sessions.specs.Sessions.{Cell, LastRenewed}
 
 -- the header with the answers' column
@@ -48,14 +48,12 @@ summary-text sessions records empty defaults =
 abbrev pub report-text : List ℕ → List Record → List Cell → ℕ → List ℕ
 report-text header rows answers sessions = head-text header ++ (rows-text rows answers ++ summary-text sessions (length rows) (nulls (map expiry-of rows)) (nulls answers))
 
--- the report of a header and records that were read, with the last renewed expiry before each
-pub record Reported (s : List ℕ) : Type 0 where
+-- the report of a text: its header and its records, with the last renewed expiry before each
+pub record Reported (text s : List ℕ) : Type 0 where
   pub header : List ℕ
   pub rows : List Record
   pub answers : List Cell
   pub sessions : ℕ
-  pub columns : Columns
-  pub header-read : FromHeader header columns
-  pub rows-read : FromLines columns rows
+  pub read : IsTable text header rows
   pub renewed : LastRenewed rows answers
-  pub text : s ≡ report-text header rows answers sessions
+  pub written : s ≡ report-text header rows answers sessions

@@ -6,7 +6,7 @@ ghost use Rattle.std.specs.Of.Vec.{vec-items};
 ghost use Rattle.std.specs.Results.{Cases};
 ghost use Rattle.std.specs.Vec.{made};
 ghost use Rattle.std.specs.declared.option.Option.the-variants.{Some};
-ghost use Rattle.sessions.specs.Reading.{Whole, Reads, Apart, IsRecord, FromHeader, FromLines};
+ghost use Rattle.sessions.specs.Reading.{Whole, Reads, Apart, IsRecord, FromHeader, Stripped, Lines, IsTable};
 ghost use Rattle.sessions.specs.Header.{Placed};
 use crate::columns::Columns;
 use crate::columns::EXPIRY;
@@ -36,15 +36,33 @@ fn fields<'a>(heap: Global, line: &'a str) -> Result<Vec<&'a str>, AllocError>
     line.split(',').collect(heap)
 }
 
-// The lines of a text, without their ends; an end after the last line is no line of its own.
-fn lines<'a>(heap: Global, text: &'a str) -> Result<Vec<&'a str>, AllocError> {
-    let body = text.strip_suffix('\n').unwrap_or(text);
+// The pieces of a text between line ends.
+fn pieces<'a>(heap: Global, body: &'a str) -> Result<Vec<&'a str>, AllocError>
+    ensures whole { λ r. ⌜ made r (λ v. now (body .entry) ≡ rejoined 10 (map (λ x. x .now) (vec-items v))) ⌝ }
+    ensures apart { λ r. ⌜ made r (λ v. Apart 10 (vec-items v)) ⌝ }
+{
     body.split('\n').collect(heap)
 }
 
+// A line end at the end of a text is no line of its own.
+fn without_end(text: &str) -> &str
+    ensures { λ r. ⌜ Stripped 10 (now (text .entry)) (now r) ⌝ }
+{
+    text.strip_suffix('\n').unwrap_or(text)
+}
+
 // A line that ended in CRLF keeps its CR at the cut.
-fn without_return(line: &str) -> &str {
+fn without_return(line: &str) -> &str
+    ensures { λ r. ⌜ Stripped 13 (now (line .entry)) (now r) ⌝ }
+{
     line.strip_suffix('\r').unwrap_or(line)
+}
+
+// The lines of a text, without their ends.
+fn lines<'a>(heap: Global, text: &'a str) -> Result<Vec<&'a str>, AllocError>
+    ensures { λ r. ⌜ made r (λ v. Lines (now (text .entry)) (vec-items v)) ⌝ }
+{
+    pieces(heap, without_end(text))
 }
 
 fn number<'a>(column: &'static str, text: &'a str) -> Result<Instant, Problem<'a>>
@@ -113,17 +131,17 @@ fn read_header<'a>(heap: Global, line: &'a str) -> Result<Columns, Refusal<'a>>
 }
 
 // The header and the records of a text; the first line that is wrong refuses it.
-pub fn read<'a>(heap: Global, text: &'a str) -> Result<Table<'a>, Refusal<'a>>
-    ensures { λ r. ⌜ made r (λ t. (c : Columns) × FromHeader (now (t .header)) c × FromLines c (vec-items (t .records))) ⌝ }
+pub(crate) fn read<'a>(heap: Global, text: &'a str) -> Result<Table<'a>, Refusal<'a>>
+    ensures { λ r. ⌜ made r (λ t. IsTable (now (text .entry)) (now (t .header)) (vec-items (t .records))) ⌝ }
 {
     let lines = lines(heap, text)?;
-    let header = without_return(lines.first().copied().unwrap_or(text));
-    if text.is_empty() {
+    if text.is_empty() || lines.is_empty() {
         return Err(Refusal::At {
             line: 1,
             problem: Problem::Empty,
         });
     }
+    let header = without_return(lines[0]);
     let columns = read_header(heap, header)?;
     let mut records = Vec::new(heap);
     for i in 1..lines.len() {

@@ -109,7 +109,7 @@ fn too_many<'a>(records: &[Record<'a>], index: usize) -> Refusal<'a>
 
 // The whole report of a text.
 pub fn report<'a>(heap: Global, text: &'a str) -> Result<String, Refusal<'a>>
-    ensures { λ r. ⌜ made r (λ s. Reported (string-bytes s)) ⌝ }
+    ensures { λ r. ⌜ made r (λ s. Reported (now (text .entry)) (string-bytes s)) ⌝ }
 {
     let table = read(heap, text)?;
     let records = table.records.as_slice();
