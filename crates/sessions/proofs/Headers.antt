@@ -13,6 +13,7 @@ use Rattle.std.specs.declared.option.Option.the-variants.{None, Some}
 use Rattle.std.proofs.shelf.Lists.{getD-default}
 use Rattle.std.proofs.shelf.Tests.{cases-eq}
 use Rattle.sessions.specs.Header.{Column, Absent}
+use Rattle.sessions.specs.Faults.{Twice}
 
 module _ (names : List (RefT (List ℕ))) (name : List ℕ) (i : ℕ) (e : RefT (List ℕ)) (h : i < length names) where
   pub column-here : Absent names name i → getD names i e .now ≡ name → Column names name (i + 1) i
@@ -38,3 +39,8 @@ module _ (names : List (RefT (List ℕ))) (name : List ℕ) (i : ℕ) (e : RefT 
 
   pub column-else : (o o′ : Option ℕ) (t : Bool) → o′ ≡ o → (getD names i e .now ≡ name → t ≡ true) → t ≡ false → Cases o (Absent names name i) (λ k. Column names name i k) → Cases o′ (Absent names name (i + 1)) (λ k. Column names name (i + 1) k)
   column-else o o′ t same eq left old = subst (λ p. Cases p (Absent names name (i + 1)) (λ k. Column names name (i + 1) k)) (sym same) (column-past o (λ is. subst (λ c. cond c (Unit {0}) ⊥) (sym (eq is) ∙ left) tt) old)
+
+  -- the name again
+  pub column-twice : (o : Option ℕ) (t b : Bool) → b ≡ isSome o → b ≡ true → (t ≡ true → getD names i e .now ≡ name) → t ≡ true → Cases o (Absent names name i) (λ k. Column names name i k) → Twice names name
+  column-twice None t b is taken eq here old = absurd (subst (λ c. cond c (Unit {0}) ⊥) (sym taken ∙ is) tt)
+  column-twice (Some k) t b is taken eq here old = record { one = k; other = i; apart = old .within; within = h; first = old .named; second = λ d. ap (λ r. r .now) (getD-default names i d e h) ∙ eq here }

@@ -3,3 +3,4 @@ pub mod Names
 pub mod Reading
 pub mod Report
 pub mod Sessions
+pub mod Faults

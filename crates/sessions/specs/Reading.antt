@@ -32,6 +32,7 @@ Reads bs (Some t) = Whole bs × (t .0 ≡ signedValue 10 bs)
 
 -- the record that a line's fields say
 pub record IsRecord (c : Columns) (line : List ℕ) (fs : List (RefT (List ℕ))) (r : Record) : Type 0 where
+  pub unquoted : Lacks 34 line
   pub full : length fs ≡ c .count
   pub line-is : r .line .now ≡ line
   pub named : 0 < length (r .session .now)
@@ -41,6 +42,7 @@ pub record IsRecord (c : Columns) (line : List ℕ) (fs : List (RefT (List ℕ))
 
 -- the columns that a header's line names
 pub record FromHeader (line : List ℕ) (c : Columns) : Type 0 where
+  pub unquoted : Lacks 34 line
   pub names : List (RefT (List ℕ))
   pub cut : line ≡ rejoined 44 (map (λ f. f .now) names)
   pub apart : Apart 44 names

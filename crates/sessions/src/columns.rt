@@ -1,8 +1,9 @@
 ghost use mathlib.Core.Path.{_≡_};
 ghost use Prim.Native.Nat.{_<_};
 ghost use lib.ListN.{length};
-ghost use Rattle.std.specs.Vec.{made};
+ghost use Rattle.std.specs.Results.{Cases};
 ghost use Rattle.sessions.specs.Header.{Placed, Column, Header};
+ghost use Rattle.sessions.specs.Faults.{NameFault, NamesFault};
 use crate::problem::Problem;
 
 pub const SESSION: &str = "session";
@@ -22,7 +23,7 @@ pub struct Columns {
 
 // The one column of a name.
 fn find_column<'a>(names: &[&'a str], name: &'static str) -> Result<usize, Problem<'a>>
-    ensures { λ r. ⌜ made r (Column (now (names .entry)) (now (name .entry)) (length (now (names .entry)))) ⌝ }
+    ensures { λ r. ⌜ Cases r (Column (now (names .entry)) (now (name .entry)) (length (now (names .entry)))) (NameFault (now (names .entry)) (now (name .entry))) ⌝ }
 {
     let mut found = None;
     for (i, other) in names.iter().enumerate() {
@@ -39,8 +40,8 @@ fn find_column<'a>(names: &[&'a str], name: &'static str) -> Result<usize, Probl
     }
 }
 
-pub fn find_columns<'a>(names: &[&'a str]) -> Result<Columns, Problem<'a>>
-    ensures { λ r. ⌜ made r (λ c. Placed c × Header (now (names .entry)) c) ⌝ }
+pub(crate) fn find_columns<'a>(names: &[&'a str]) -> Result<Columns, Problem<'a>>
+    ensures { λ r. ⌜ Cases r (λ c. Placed c × Header (now (names .entry)) c) (NamesFault (now (names .entry))) ⌝ }
 {
     let session = find_column(names, SESSION)?;
     let instant = find_column(names, INSTANT)?;

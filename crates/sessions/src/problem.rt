@@ -1,4 +1,5 @@
 ghost use mathlib.Core.Path.{_≡_};
+ghost use Rattle.sessions.specs.declared.problem.Refusal.the-variants.{Memory as NoMemory};
 ghost use Rattle.sessions.specs.declared.problem.Unanswered.the-variants.{Memory};
 use std::alloc::AllocError;
 use std::alloc::Refused;
@@ -48,12 +49,16 @@ pub enum Refusal<'a> {
 }
 
 pub impl<'a> From<AllocError> for Refusal<'a> as RefusalFromAlloc {
+    ghost converts = { λ _ r. r ≡ NoMemory };
+
     fn from(_e: AllocError) -> Refusal<'a> {
         Refusal::Memory
     }
 }
 
 pub impl<'a, T: Drop> From<Refused<T>> for Refusal<'a> as RefusalFromRefused {
+    ghost converts = { λ _ r. r ≡ NoMemory };
+
     fn from(_e: Refused<T>) -> Refusal<'a> {
         Refusal::Memory
     }

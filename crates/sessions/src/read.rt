@@ -1,13 +1,17 @@
 // Reads the text of a file: a header, and a record a line.
 ghost use mathlib.Core.Path.{_≡_};
 ghost use mathlib.Core.List.{map};
-ghost use Rattle.std.specs.Pieces.{rejoined};
-ghost use Rattle.std.specs.Of.Vec.{vec-items};
+ghost use Rattle.std.specs.Pieces.{rejoined, Lacks};
+ghost use mathlib.Core.Bool.{true, false};
+ghost use Prim.Native.Nat.{_<_};
+ghost use lib.ListN.{length};
+ghost use Rattle.std.specs.Of.Vec.{vec-items, vec-len};
 ghost use Rattle.std.specs.Results.{Cases};
 ghost use Rattle.std.specs.Vec.{made};
 ghost use Rattle.std.specs.declared.option.Option.the-variants.{Some};
-ghost use Rattle.sessions.specs.Reading.{Whole, Reads, Apart, IsRecord, FromHeader, Stripped, Lines, IsTable};
+ghost use Rattle.sessions.specs.Reading.{Reads, Apart, IsRecord, FromHeader, Stripped, Lines, IsTable};
 ghost use Rattle.sessions.specs.Header.{Placed};
+ghost use Rattle.sessions.specs.Faults.{Holds, IsNoNumber, LineFault, HeaderRefused, Unread};
 use crate::columns::Columns;
 use crate::columns::EXPIRY;
 use crate::columns::INSTANT;
@@ -40,6 +44,7 @@ fn fields<'a>(heap: Global, line: &'a str) -> Result<Vec<&'a str>, AllocError>
 fn pieces<'a>(heap: Global, body: &'a str) -> Result<Vec<&'a str>, AllocError>
     ensures whole { λ r. ⌜ made r (λ v. now (body .entry) ≡ rejoined 10 (map (λ x. x .now) (vec-items v))) ⌝ }
     ensures apart { λ r. ⌜ made r (λ v. Apart 10 (vec-items v)) ⌝ }
+    ensures some { λ r. ⌜ made r (λ v. 0 < vec-len v) ⌝ }
 {
     body.split('\n').collect(heap)
 }
@@ -60,13 +65,22 @@ fn without_return(line: &str) -> &str
 
 // The lines of a text, without their ends.
 fn lines<'a>(heap: Global, text: &'a str) -> Result<Vec<&'a str>, AllocError>
-    ensures { λ r. ⌜ made r (λ v. Lines (now (text .entry)) (vec-items v)) ⌝ }
+    ensures lines { λ r. ⌜ made r (λ v. Lines (now (text .entry)) (vec-items v)) ⌝ }
+    ensures some { λ r. ⌜ made r (λ v. 0 < vec-len v) ⌝ }
 {
     pieces(heap, without_end(text))
 }
 
+// Whether a line has a double quote.
+fn is_quoted(line: &str) -> bool
+    ensures yes { λ r. ⌜ (r ≡ true → Holds 34 (now (line .entry))) ⌝ }
+    ensures no { λ r. ⌜ (r ≡ false → Lacks 34 (now (line .entry))) ⌝ }
+{
+    line.contains('"')
+}
+
 fn number<'a>(column: &'static str, text: &'a str) -> Result<Instant, Problem<'a>>
-    ensures { λ r. ⌜ Cases r (λ t. Reads (now (text .entry)) (Some t)) (λ _. Whole (now (text .entry)) → ⊥) ⌝ }
+    ensures { λ r. ⌜ Cases r (λ t. Reads (now (text .entry)) (Some t)) (IsNoNumber (now (column .entry)) (now (text .entry))) ⌝ }
 {
     match text.parse::<i64>() {
         Ok(n) => Ok(Instant(n)),
@@ -76,7 +90,7 @@ fn number<'a>(column: &'static str, text: &'a str) -> Result<Instant, Problem<'a
 
 // A number, or NULL where the field is empty.
 fn cell<'a>(column: &'static str, text: &'a str) -> Result<Option<Instant>, Problem<'a>>
-    ensures { λ r. ⌜ made r (Reads (now (text .entry))) ⌝ }
+    ensures { λ r. ⌜ Cases r (Reads (now (text .entry))) (λ p. IsNoNumber (now (column .entry)) (now (text .entry)) p × (0 < length (now (text .entry)))) ⌝ }
 {
     if text.is_empty() {
         return Ok(None);
@@ -90,9 +104,9 @@ fn read_record<'a>(
     fields: &[&'a str],
 ) -> Result<Record<'a>, Problem<'a>>
     requires { ⌜ Placed (now columns) ⌝ }
-    ensures { λ r. ⌜ made r (IsRecord (now (columns .entry)) (now (line .entry)) (now (fields .entry))) ⌝ }
+    ensures { λ r. ⌜ Cases r (IsRecord (now (columns .entry)) (now (line .entry)) (now (fields .entry))) (LineFault (now (columns .entry)) (now (line .entry)) (now (fields .entry))) ⌝ }
 {
-    if line.contains('"') {
+    if is_quoted(line) {
         return Err(Problem::Quote);
     }
     if fields.len() != columns.count {
@@ -115,9 +129,9 @@ fn read_record<'a>(
 }
 
 fn read_header<'a>(heap: Global, line: &'a str) -> Result<Columns, Refusal<'a>>
-    ensures { λ r. ⌜ made r (λ c. Placed c × FromHeader (now (line .entry)) c) ⌝ }
+    ensures { λ r. ⌜ Cases r (λ c. Placed c × FromHeader (now (line .entry)) c) (HeaderRefused (now (line .entry))) ⌝ }
 {
-    if line.contains('"') {
+    if is_quoted(line) {
         return Err(Refusal::At {
             line: 1,
             problem: Problem::Quote,
@@ -132,10 +146,10 @@ fn read_header<'a>(heap: Global, line: &'a str) -> Result<Columns, Refusal<'a>>
 
 // The header and the records of a text; the first line that is wrong refuses it.
 pub(crate) fn read<'a>(heap: Global, text: &'a str) -> Result<Table<'a>, Refusal<'a>>
-    ensures { λ r. ⌜ made r (λ t. IsTable (now (text .entry)) (now (t .header)) (vec-items (t .records))) ⌝ }
+    ensures { λ r. ⌜ Cases r (λ t. IsTable (now (text .entry)) (now (t .header)) (vec-items (t .records))) (Unread (now (text .entry))) ⌝ }
 {
     let lines = lines(heap, text)?;
-    if text.is_empty() || lines.is_empty() {
+    if text.is_empty() {
         return Err(Refusal::At {
             line: 1,
             problem: Problem::Empty,

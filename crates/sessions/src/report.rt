@@ -6,6 +6,8 @@ ghost use Prim.Native.Nat.{_<_, _≤_};
 ghost use Rattle.std.specs.Of.String.{string-bytes};
 ghost use Rattle.std.specs.Of.Vec.{vec-items};
 ghost use Rattle.std.specs.Vec.{made};
+ghost use Rattle.std.specs.Results.{Cases};
+ghost use Rattle.sessions.specs.Faults.{FullAt, Unreported};
 ghost use Rattle.sessions.specs.Report.{row-text, answered-text, rows-text, head-text, summary-text, nulls, expiry-of, Reported};
 use crate::answers::last_renewed;
 use crate::problem::Problem;
@@ -99,6 +101,7 @@ fn rows(
 // The refusal at a record; the header is line 1.
 fn too_many<'a>(records: &[Record<'a>], index: usize) -> Refusal<'a>
     requires { ⌜ index < length (now records) ⌝ }
+    ensures { λ r. ⌜ FullAt (now (records .entry)) index r ⌝ }
 {
     let session = records[index].session;
     Refusal::At {
@@ -109,7 +112,7 @@ fn too_many<'a>(records: &[Record<'a>], index: usize) -> Refusal<'a>
 
 // The whole report of a text.
 pub fn report<'a>(heap: Global, text: &'a str) -> Result<String, Refusal<'a>>
-    ensures { λ r. ⌜ made r (λ s. Reported (now (text .entry)) (string-bytes s)) ⌝ }
+    ensures { λ r. ⌜ Cases r (λ s. Reported (now (text .entry)) (string-bytes s)) (Unreported (now (text .entry))) ⌝ }
 {
     let table = read(heap, text)?;
     let records = table.records.as_slice();

@@ -3,4 +3,4 @@ use Rattle.sessions.proofs.Lines.{lines-made}
 use Rattle.sessions.proofs.read.lines.Needs as need
 
 pub returns : need.returns
-returns c = lines-made vec-items (c .args .text .now) (c .without-end .result .now) (c .pieces .result) (c .without-end .ensures) (c .pieces .ensures .whole) (c .pieces .ensures .apart)
+returns c = record { lines = lines-made vec-items (c .args .text .now) (c .without-end .result .now) (c .pieces .result) (c .without-end .ensures) (c .pieces .ensures .whole) (c .pieces .ensures .apart); some = c .pieces .ensures .some }
