@@ -7,3 +7,4 @@ mod Numbers
 mod Present
 mod Pushes
 mod Texts
+mod Firsts

@@ -10,7 +10,7 @@ use Rattle.std.specs.declared.option.Option.the-variants.{None, Some}
 use Rattle.std.proofs.shelf.Lists.{take-more, take-all, map-append, length-take}
 use Rattle.sessions.specs.declared.record.Record.{Record}
 use Rattle.sessions.specs.Reading.{IsTable}
-use Rattle.sessions.specs.Sessions.{Cell, LastRenewed}
+use Rattle.sessions.specs.Sessions.{Cell, LastRenewed, sessions-in}
 use Rattle.sessions.specs.Report.{row-text, rows-text, nulls, expiry-of, head-text, summary-text, report-text, Reported}
 
 true-not-false : true ≡ false → ⊥
@@ -63,13 +63,14 @@ rows-turn rs cs i d e text text′ part line same h old is here more = more ∙ 
 pub expiries-turn : (rs : List Record) (i : ℕ) (d : Record) (cs cs′ : List Cell) → i < length rs → cs ≡ map expiry-of (take i rs) → cs′ ≡ cs ++ (getD rs i d .expiry ∷ []) → cs′ ≡ map expiry-of (take (i + 1) rs)
 expiries-turn rs i d cs cs′ h old more = more ∙ ap (λ l. l ++ (getD rs i d .expiry ∷ [])) old ∙ sym (map-more expiry-of rs i d h)
 
-pub report-is : (text h : List ℕ) (recs rows : List Record) → rows ≡ recs → IsTable text h recs → (cells answers nones : List Cell) (n m p q : ℕ) (out out₁ out₂ body bodys end ends : List ℕ) → LastRenewed rows cells → answers ≡ cells → out ≡ head-text h → body ≡ rows-text rows answers → bodys ≡ body → out₁ ≡ out ++ bodys → nones ≡ map expiry-of rows → m ≡ length rows → p ≡ nulls nones → q ≡ nulls answers → end ≡ summary-text n m p q → ends ≡ end → out₂ ≡ out₁ ++ ends → Reported text out₂
-report-is text h recs rows er read cells answers nones n m p q out out₁ out₂ body bodys end ends last ea eo eb ebs e₁ en em ep eq ee ees e₂ = record {
+pub report-is : (text h : List ℕ) (recs rows : List Record) → rows ≡ recs → IsTable text h recs → (cells answers nones : List Cell) (n m p q : ℕ) (out out₁ out₂ body bodys end ends : List ℕ) → LastRenewed rows cells → n ≡ sessions-in rows (length rows) → answers ≡ cells → out ≡ head-text h → body ≡ rows-text rows answers → bodys ≡ body → out₁ ≡ out ++ bodys → nones ≡ map expiry-of rows → m ≡ length rows → p ≡ nulls nones → q ≡ nulls answers → end ≡ summary-text n m p q → ends ≡ end → out₂ ≡ out₁ ++ ends → Reported text out₂
+report-is text h recs rows er read cells answers nones n m p q out out₁ out₂ body bodys end ends last counted ea eo eb ebs e₁ en em ep eq ee ees e₂ = record {
   header = h;
   rows = rows;
   answers = answers;
   sessions = n;
   read = subst (IsTable text h) (sym er) read;
   renewed = subst (LastRenewed rows) (sym ea) last;
+  counted = counted;
   written = e₂ ∙ ap (λ l. l ++ ends) (e₁ ∙ ap (λ l. l ++ bodys) eo ∙ ap (λ l. head-text h ++ l) (ebs ∙ eb)) ∙ append-assoc (head-text h) (rows-text rows answers) ends ∙ ap (λ l. head-text h ++ (rows-text rows answers ++ l)) (ees ∙ ee ∙ ap (λ (k : ℕ). summary-text n k p q) em ∙ ap (λ (k : ℕ). summary-text n (length rows) k q) (ep ∙ ap nulls en) ∙ ap (λ (k : ℕ). summary-text n (length rows) (nulls (map expiry-of rows)) k) eq);
 }

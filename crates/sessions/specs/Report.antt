@@ -11,7 +11,7 @@ use Rattle.std.specs.declared.option.Option.the-variants.{None, Some}
 use Rattle.sessions.specs.declared.record.Record.{Record}
 use Rattle.sessions.specs.declared.columns.Columns.{Columns}
 use Rattle.sessions.specs.Reading.{IsTable}
-use Rattle.sessions.specs.Sessions.{Cell, LastRenewed}
+use Rattle.sessions.specs.Sessions.{Cell, LastRenewed, sessions-in}
 
 -- the header with the answers' column
 abbrev pub head-text : List ℕ → List ℕ
@@ -56,4 +56,5 @@ pub record Reported (text s : List ℕ) : Type 0 where
   pub sessions : ℕ
   pub read : IsTable text header rows
   pub renewed : LastRenewed rows answers
+  pub counted : sessions ≡ sessions-in rows (length rows)
   pub written : s ≡ report-text header rows answers sessions

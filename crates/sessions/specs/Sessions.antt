@@ -1,8 +1,9 @@
 -- The records of sessions, and the last renewed expiry before each. Assumes nothing.
-use Prim.Native.Nat.{ℕ, _<_, _≤_}
+use Prim.Native.Nat.{ℕ, _<_, _≤_, zero, suc, _+_}
 use mathlib.Core.Path.{_≡_}
 use mathlib.Core.Bool.{Bool, cond}
 use mathlib.Core.List.{List, [], _∷_, _++_, map}
+use lib.Dec.{eqb}
 use lib.ListN.{length, getD, take, set}
 use Rattle.std.specs.shelf.Text.{sameBytes}
 use Rattle.std.specs.declared.option.Option.{Option}
@@ -66,6 +67,16 @@ pub record Grouped (rows : List Record) (numbers : List ℕ) (i : ℕ) (ls : Lis
   pub wide : (j : ℕ) → j < length rows → getD numbers j 0 < length ls
   pub cells : (j : ℕ) → j < length rows → getD ls (getD numbers j 0) [] ≡ cells-of (session-at rows j) (take i rows)
   pub placed : (j : ℕ) → j < i → getD places j 0 ≡ length (cells-of (session-at rows j) (take j rows))
+
+-- how many places are the first
+abbrev pub zeros : List ℕ → ℕ
+zeros [] = 0
+zeros (p ∷ ps) = cond (eqb p 0) 1 0 + zeros ps
+
+-- how many of the first n records are the first of their session: the number of sessions among them
+abbrev pub sessions-in : List Record → ℕ → ℕ
+sessions-in rows zero = 0
+sessions-in rows (suc n) = sessions-in rows n + cond (eqb (length (cells-of (session-at rows n) (take n rows))) 0) 1 0
 
 -- no list is longer than a partition may be
 abbrev pub Bounded : List (List Cell) → Type 0

@@ -1,10 +1,11 @@
 // The last renewed expiry before each record in its session.
+ghost use mathlib.Core.Path.{_≡_};
 ghost use mathlib.Core.List.{map};
 ghost use lib.ListN.{length};
 ghost use Rattle.std.specs.Of.Vec.{vec-items};
 ghost use Rattle.std.specs.Results.{Cases};
 ghost use Rattle.std.specs.Vec.{made};
-ghost use Rattle.sessions.specs.Sessions.{AllAnswered, LastRenewed, lists, Gathers, Gathered, Bounded, Within, Overfull};
+ghost use Rattle.sessions.specs.Sessions.{AllAnswered, LastRenewed, lists, Gathers, Gathered, Bounded, Within, Overfull, zeros, sessions-in};
 use crate::cells::Cells;
 use crate::lag::answer_session;
 use crate::numbering::number_sessions;
@@ -44,6 +45,19 @@ fn gather(
     Ok(gathered)
 }
 
+// How many records are the first of their session, by their places there.
+fn count_firsts(places: &[usize]) -> usize
+    ensures { λ r. ⌜ r ≡ zeros (now (places .entry)) ⌝ }
+{
+    let mut n = 0;
+    for place in places {
+        if *place == 0 {
+            n += 1;
+        }
+    }
+    n
+}
+
 // The answer of each record, in file order, and how many sessions there are.
 #[derive(Drop)]
 pub struct Answers {
@@ -52,7 +66,7 @@ pub struct Answers {
 }
 
 pub fn last_renewed(heap: Global, records: &[Record<'_>]) -> Result<Answers, Unanswered>
-    ensures { λ r. ⌜ Cases r (λ a. LastRenewed (now (records .entry)) (vec-items (a .cells)) × Within (now (records .entry))) (Overfull (now (records .entry))) ⌝ }
+    ensures { λ r. ⌜ Cases r (λ a. LastRenewed (now (records .entry)) (vec-items (a .cells)) × Within (now (records .entry)) × (a .sessions ≡ sessions-in (now (records .entry)) (length (now (records .entry))))) (Overfull (now (records .entry))) ⌝ }
 {
     let numbering = number_sessions(heap, records)?;
     let partitions = partition(heap, records, &numbering)?;
@@ -65,6 +79,6 @@ pub fn last_renewed(heap: Global, records: &[Record<'_>]) -> Result<Answers, Una
     )?;
     Ok(Answers {
         cells,
-        sessions: numbering.count,
+        sessions: count_firsts(partitions.places.as_slice()),
     })
 }

@@ -95,7 +95,7 @@ fn lag_cells<'a>(
 }
 
 // The answer of each cell.
-pub fn answer_session(heap: Global, cells: &[Option<Instant>]) -> Result<Cells, AllocError>
+pub(crate) fn answer_session(heap: Global, cells: &[Option<Instant>]) -> Result<Cells, AllocError>
     requires { ⌜ length (now cells) ≤ row-limit ⌝ }
     ensures { λ r. ⌜ made r (λ v. Answered (now (cells .entry)) (vec-items v)) ⌝ }
 {

@@ -6,6 +6,6 @@ mod lag;
 mod numbering;
 mod partitions;
 pub mod problem;
-pub mod read;
+mod read;
 pub mod record;
 pub mod report;

@@ -51,7 +51,7 @@ fn number_names(heap: Global, names: &[&str]) -> Result<Numbers, AllocError>
     Ok(numbers)
 }
 
-pub fn number_sessions(heap: Global, records: &[Record<'_>]) -> Result<Numbering, AllocError>
+pub(crate) fn number_sessions(heap: Global, records: &[Record<'_>]) -> Result<Numbering, AllocError>
     ensures { λ r. ⌜ made r (λ n. Numbered (now (records .entry)) (vec-items (n .numbers)) (n .count)) ⌝ }
 {
     let names = sorted_names(heap, records)?;

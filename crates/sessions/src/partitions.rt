@@ -47,7 +47,7 @@ fn append(all: &mut Vec<Cells>, session: usize, cell: Option<Instant>) -> Result
     Ok(place)
 }
 
-pub fn partition(
+pub(crate) fn partition(
     heap: Global,
     records: &[Record<'_>],
     numbering: &Numbering,
