@@ -1,6 +1,3 @@
 pub mod Seen
-pub mod Splits
 pub mod Zeroed
 pub mod Asks
-pub mod Steps
-pub mod Holds

@@ -1,5 +1,3 @@
-pub mod calls;
 mod progress;
-pub mod replay;
 pub mod rows;
 pub mod run;

@@ -10,22 +10,22 @@ use lib.Dec.{T}
 use Rattle.std.proofs.shelf.Lists.{append-assoc, take-more, take-all, length-take-le, length-push}
 use Rattle.std.specs.declared.option.Option.{Option}
 use Rattle.std.specs.declared.option.Option.the-variants.{None, Some}
 use Rattle.run.specs.declared.progress.Progress.{Progress}
-use Rattle.run.specs.declared.calls.Call.{Call}
-use Rattle.run.specs.declared.calls.Call.the-variants.{Request, Settle, KeepMark, Close}
-use Rattle.run.specs.declared.calls.Outcome.{Outcome}
-use Rattle.run.specs.declared.calls.Entry.{Entry}
+use Rattle.replay.specs.declared.calls.Call.{Call}
+use Rattle.replay.specs.declared.calls.Call.the-variants.{Request, Settle, KeepMark, Close}
+use Rattle.replay.specs.declared.calls.Outcome.{Outcome}
+use Rattle.replay.specs.declared.calls.Entry.{Entry}
 use Rattle.run.specs.declared.run.Run.{Run}
 use Rattle.evaluator.specs.Meaning.{Partition}
 use Rattle.partition.specs.Table.{Frame}
 use Rattle.run.specs.Shown.{Framed, end-of, based}
 use Rattle.evaluator.specs.Meaning.{Meaning, Alike, Laws, settles}
 use Rattle.run.specs.Table.{is-total}
-use Rattle.run.specs.History.{Event, history, answered, accepted, last-frame, frame-of, total-of, total-after, progress-at, Ruled, ShownBy, Shown, AsWhole, Marked, Replayed}
-use Rattle.run.specs.Act.{Acted, Ended, Does, evaluator-of, progress-of, total-now}
-use Rattle.run.proofs.Splits.{split-push, never-nil, accepted-push, last-push, total-push, history-push}
+use Rattle.replay.specs.History.{Event, history, answered, accepted, last-frame, frame-of, total-of, total-after, progress-at, Ruled, ShownBy, Shown, AsWhole, Marked, Replayed}
+use Rattle.replay.specs.Act.{Acted, Ended, Does, evaluator-of, progress-of, total-now}
+use Rattle.replay.proofs.Splits.{split-push, never-nil, accepted-push, last-push, total-push, history-push}
 use Rattle.run.proofs.Asks.{Kept}
-use Rattle.run.proofs.Steps.{after, Stays, Step, alike-step, step}
+use Rattle.replay.proofs.Steps.{after, Stays, Step, alike-step, step}
 
 pub record Holds {V A S : Type 0} (meaning : S → Meaning V A) (e₀ : S) (wants z : Bool) (e : S) (h : List (Event V A)) : Type 0 where
   pub alike : Alike (meaning e₀) (meaning e)

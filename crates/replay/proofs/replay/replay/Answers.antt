@@ -5,10 +5,10 @@ use native.Mathlib.Omega.{arith}
 use lib.ListN.{length}
 use Rattle.std.specs.Of.Vec.{vec-items}
 use Rattle.std.proofs.shelf.Results.{err-from-errBy}
-use Rattle.run.specs.Act.{evaluator-of}
-use Rattle.run.proofs.Steps.{alike-refl}
-use Rattle.run.proofs.Holds.{start, turns, ends}
-use Rattle.run.proofs.replay.replay.Needs as need
+use Rattle.replay.specs.Act.{evaluator-of}
+use Rattle.replay.proofs.Steps.{alike-refl}
+use Rattle.replay.proofs.Holds.{start, turns, ends}
+use Rattle.replay.proofs.replay.replay.Needs as need
 
 pub loop-call-holds : need.loop-call-holds
 loop-call-holds g c = (

@@ -8,20 +8,20 @@ use Rattle.std.specs.declared.option.Option.the-variants.{None, Some}
 use Rattle.std.specs.declared.result.Result.{Result}
 use Rattle.std.specs.declared.result.Result.the-variants.{Ok, Err}
 use Rattle.column.specs.declared.fault.Fault.{Fault}
 use Rattle.run.specs.declared.progress.Progress.{Progress}
 use Rattle.run.specs.declared.run.Open.{Open}
 use Rattle.run.specs.declared.run.Closed.{Closed}
-use Rattle.run.specs.declared.calls.Call.{Call}
-use Rattle.run.specs.declared.calls.Call.the-variants.{Request, Settle, KeepMark, Close}
-use Rattle.run.specs.declared.calls.Outcome.{Outcome}
-use Rattle.run.specs.declared.calls.Outcome.the-variants.{Answer, Refused, Done, Mark, NotTaken}
-use Rattle.run.specs.declared.calls.Entry.{Entry}
+use Rattle.replay.specs.declared.calls.Call.{Call}
+use Rattle.replay.specs.declared.calls.Call.the-variants.{Request, Settle, KeepMark, Close}
+use Rattle.replay.specs.declared.calls.Outcome.{Outcome}
+use Rattle.replay.specs.declared.calls.Outcome.the-variants.{Answer, Refused, Done, Mark, NotTaken}
+use Rattle.replay.specs.declared.calls.Entry.{Entry}
 use Rattle.run.specs.declared.run.Run.{Run}
 use Rattle.run.specs.declared.run.Run.the-variants.{Opened, Shut}
 use Rattle.evaluator.specs.Meaning.{Partition, Meaning, Alike}
 use Rattle.run.specs.Run.{Requested, Settled}
 use Rattle.run.specs.Shown.{based}
-use Rattle.run.specs.History.{Event, Shown, accepted, progress-at, total-of, total-after, close-outcome}
+use Rattle.replay.specs.History.{Event, Shown, accepted, progress-at, total-of, total-after, close-outcome}
 
 abbrev pub evaluator-of : {S : Type 0} → Run S → S
 evaluator-of (Opened o) = o .evaluator

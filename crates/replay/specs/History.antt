@@ -10,18 +10,18 @@ use Rattle.std.specs.declared.option.Option.the-variants.{None, Some}
 use Rattle.column.specs.declared.fault.Fault.{Fault}
 use Rattle.column.specs.declared.fault.Fault.the-variants.{Lengths, RowLimit, NoFrame, NoRowLeft, BeginsLate, PastTotal, BadFrame, TooEarly, NotFromZero, BadTotal, Unanswered}
 use Rattle.column.specs.declared.column.Window.{Window}
 use Rattle.run.specs.declared.progress.Progress.{Progress}
-use Rattle.run.specs.declared.calls.Call.{Call}
-use Rattle.run.specs.declared.calls.Call.the-variants.{Request, Settle, KeepMark, Close}
-use Rattle.run.specs.declared.calls.Outcome.{Outcome}
-use Rattle.run.specs.declared.calls.Outcome.the-variants.{Answer, Refused, Done, Mark, NotTaken}
-use Rattle.run.specs.declared.calls.Entry.{Entry}
+use Rattle.replay.specs.declared.calls.Call.{Call}
+use Rattle.replay.specs.declared.calls.Call.the-variants.{Request, Settle, KeepMark, Close}
+use Rattle.replay.specs.declared.calls.Outcome.{Outcome}
+use Rattle.replay.specs.declared.calls.Outcome.the-variants.{Answer, Refused, Done, Mark, NotTaken}
+use Rattle.replay.specs.declared.calls.Entry.{Entry}
 use Rattle.evaluator.specs.Meaning.{Partition}
 use Rattle.partition.specs.Table.{Frame}
 use Rattle.run.specs.Shown.{Shows, Framed, shown, end-of, frame-at, based}
 use Rattle.evaluator.specs.Meaning.{Meaning, Alike, settles}
 use Rattle.run.specs.Table.{is-total, unfit-total}
 use Rattle.run.specs.Run.{refusal-at, frame-or-none}
 
 -- an event: a call, and what was noted of it (the keep mark that it found, and its outcome)
 abbrev pub Event : Type 0 → Type 0 → Type 0

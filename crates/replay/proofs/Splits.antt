@@ -9,10 +9,10 @@ use native.Mathlib.Omega.{arith}
 use lib.ListN.{length}
 use Rattle.std.proofs.shelf.Lists.{length-append}
 use Rattle.std.specs.declared.option.Option.{Option}
-use Rattle.run.specs.declared.calls.Call.{Call}
-use Rattle.run.specs.declared.calls.Entry.{Entry}
+use Rattle.replay.specs.declared.calls.Call.{Call}
+use Rattle.replay.specs.declared.calls.Entry.{Entry}
 use Rattle.partition.specs.Table.{Frame}
-use Rattle.run.specs.History.{Event, history, accepted, answered, last-frame, frame-of, total-of, total-after}
+use Rattle.replay.specs.History.{Event, history, accepted, answered, last-frame, frame-of, total-of, total-after}
 
 tail-same : {X : Type 0} (x y : X) (xs ys : List X) → x ∷ xs ≡ y ∷ ys → (x ≡ y) × (xs ≡ ys)
 tail-same x y xs ys p = (cc, cc)

@@ -19,24 +19,24 @@ use Rattle.std.specs.declared.result.Result.the-variants.{Ok, Err}
 use Rattle.column.specs.declared.fault.Fault.{Fault}
 use Rattle.column.specs.declared.fault.Fault.the-variants.{TooEarly, NotFromZero, BadTotal}
 use Rattle.column.specs.declared.column.Window.{Window}
 use Rattle.run.specs.declared.progress.Progress.{Progress}
-use Rattle.run.specs.declared.calls.Call.{Call}
-use Rattle.run.specs.declared.calls.Call.the-variants.{Request, Settle, KeepMark, Close}
-use Rattle.run.specs.declared.calls.Outcome.{Outcome}
-use Rattle.run.specs.declared.calls.Outcome.the-variants.{Answer, Refused, Done, Mark, NotTaken}
-use Rattle.run.specs.declared.calls.Entry.{Entry}
+use Rattle.replay.specs.declared.calls.Call.{Call}
+use Rattle.replay.specs.declared.calls.Call.the-variants.{Request, Settle, KeepMark, Close}
+use Rattle.replay.specs.declared.calls.Outcome.{Outcome}
+use Rattle.replay.specs.declared.calls.Outcome.the-variants.{Answer, Refused, Done, Mark, NotTaken}
+use Rattle.replay.specs.declared.calls.Entry.{Entry}
 use Rattle.evaluator.specs.Meaning.{Partition}
 use Rattle.partition.specs.Table.{Frame}
 use Rattle.run.specs.Shown.{Shows, Framed, FromZero, Ordered, shown, end-of, frame-at, frame-before, based-frames, based}
 use Rattle.evaluator.specs.Meaning.{Meaning, Alike, Laws, settles}
 use Rattle.run.specs.Rows.{Given}
 use Rattle.run.specs.Table.{is-total, unfit-total}
 use Rattle.run.specs.Run.{refusal-at, frame-or-none, advanced, Outcome-by, Requested, Settled}
-use Rattle.run.specs.History.{Event, answered, done, accepted, last-frame, frame-of, total-of, total-after, progress-at, Tried, ByTable, close-outcome, Ruled, ShownBy, Shown, Right, AsWhole, Replayed}
-use Rattle.run.specs.Act.{noted, noted-done, Does}
-use Rattle.run.proofs.Splits.{split-push, accepted-push, last-push, total-push}
+use Rattle.replay.specs.History.{Event, answered, done, accepted, last-frame, frame-of, total-of, total-after, progress-at, Tried, ByTable, close-outcome, Ruled, ShownBy, Shown, Right, AsWhole, Replayed}
+use Rattle.replay.specs.Act.{noted, noted-done, Does}
+use Rattle.replay.proofs.Splits.{split-push, accepted-push, last-push, total-push}
 use Rattle.run.proofs.Zeroed.{based-framed, based-ordered, based-from-zero, take-based, at-based}
 use Rattle.run.proofs.Asks.{Fits, Kept, ordered-more, zero-more, fits-here, known-total, asked, Got, got}
 
 -- the progress after a call, which was a request that handed on the frame g if `x`
 abbrev pub after : Bool → Progress → Frame → Bool → Progress

@@ -1,0 +1,3 @@
+pub mod Splits
+pub mod Steps
+pub mod Holds
