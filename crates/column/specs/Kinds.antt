@@ -16,12 +16,15 @@ same-number (pos a) (negsuc b) = false
 same-number (negsuc a) (pos b) = false
 same-number (negsuc a) (negsuc b) = eqb a b
 
+-- instants by their numbers
 abbrev pub same-instant : Instant → Instant → Bool
 same-instant x y = same-number (x .0) (y .0)
 
+-- pseudonyms by both numbers
 abbrev pub same-pseudonym : Pseudonym → Pseudonym → Bool
 same-pseudonym x y = eqb (x .high) (y .high) && eqb (x .low) (y .low)
 
+-- codes by their numbers
 abbrev pub same-code : CollegeCode → CollegeCode → Bool
 same-code x y = eqb (x .0) (y .0)
 
@@ -37,5 +40,6 @@ same-outcome TimedOut Granted = false
 same-outcome TimedOut (Refused b) = false
 same-outcome TimedOut TimedOut = true
 
+-- pairs by both parts
 abbrev pub same-pair : {A B : Type 0} → (A → A → Bool) → (B → B → Bool) → Pair A B → Pair A B → Bool
 same-pair same-first same-second x y = same-first (x .first) (y .first) && same-second (x .second) (y .second)

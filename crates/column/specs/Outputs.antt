@@ -11,15 +11,18 @@ use Rattle.column.specs.Slots.{OutputLaws, CellSlots, put-cell, cell-count}
 use Rattle.column.specs.declared.output.Cells.{Cells}
 use Rattle.column.specs.declared.output.Numbers.{Numbers}
 
+-- the same lent list, whatever it holds
 abbrev pub same-list : {A : Type 0} → Numbers A → Numbers A → Type 0
 same-list b c = name (b .list) ≡ name (c .list)
 
 pub number-laws : {A : Type 0} → OutputLaws {X = Numbers A} {S = List A} {A = A} (λ s i a. set s i a) (λ s. length s) same-list
 number-laws = record { size-stays = λ s i a. length-set s i a; refl = λ x. refl; trans = λ x y z p q. p ∙ q }
 
+-- what the two lists hold
 abbrev pub cell-slots : {V : Type 0} → Cells V → CellSlots V
 cell-slots b = record { values = now (b .values); marks = now (b .marks) }
 
+-- the same two lent lists
 abbrev pub same-lists : {V : Type 0} → Cells V → Cells V → Type 0
 same-lists b c = (name (b .values) ≡ name (c .values)) × (name (b .marks) ≡ name (c .marks))
 

@@ -14,6 +14,7 @@ abbrev pub yields : {X : Type 0} → X → Option Fault → Result X Fault
 yields x None = Ok x
 yields x (Some f) = Err f
 
+-- what a check gives
 abbrev pub passes : Option Fault → Result (Unit {0}) Fault
 passes refusal = yields tt refusal
 

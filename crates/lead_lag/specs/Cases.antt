@@ -12,12 +12,15 @@ use Rattle.lead_lag.specs.declared.offset.WindowShiftKind.the-variants.{Lag, L
 use Rattle.lead_lag.specs.Offset.{way-of, signed-offset}
 use Rattle.lead_lag.specs.Shift.{shifted, shift-settled}
 
+-- 5, NULL, 7, NULL, NULL, 9
 abbrev pub column-a : List (Option ℕ)
 column-a = Some 5 ∷ None ∷ Some 7 ∷ None ∷ None ∷ Some 9 ∷ []
 
+-- 10, 11, 12, 13, NULL, 15
 abbrev pub column-b : List (Option ℕ)
 column-b = Some 10 ∷ Some 11 ∷ Some 12 ∷ Some 13 ∷ None ∷ Some 15 ∷ []
 
+-- six present cells
 abbrev pub six : ℕ → ℕ → ℕ → ℕ → ℕ → ℕ → List (Option ℕ)
 six a b c d e f = Some a ∷ Some b ∷ Some c ∷ Some d ∷ Some e ∷ Some f ∷ []
 
@@ -25,6 +28,7 @@ six a b c d e f = Some a ∷ Some b ∷ Some c ∷ Some d ∷ Some e ∷ Some f 
 abbrev pub answers : WindowShiftKind → ℕ → Bool → List (Option ℕ) → List (Option ℕ)
 answers kind n ignoring rows = map (shifted (way-of (signed-offset kind (Some (pos n)) false)) ignoring (Some 0) rows) (0 ∷ 1 ∷ 2 ∷ 3 ∷ 4 ∷ 5 ∷ [])
 
+-- the cases
 pub record Cases : Type 0 where
   pub lag-1-ignoring : answers Lag 1 true column-a ≡ six 0 5 5 7 7 7
   pub lag-2-ignoring : answers Lag 2 true column-a ≡ six 0 0 0 5 5 5

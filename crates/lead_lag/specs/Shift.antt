@@ -124,5 +124,6 @@ abbrev pub made-by : {V : Type 0} → WindowShiftKind → Bool → Bool → Opti
 made-by kind reversed ignoring default (Ok value) = Ok (record { «shift_offset» = signed-offset kind value reversed; «ignore_nulls» = ignoring; «default_value» = default; held = start })
 made-by kind reversed ignoring default (Err f) = Err f
 
+-- the same, by the argument
 abbrev pub making : {V : Type 0} → WindowShiftKind → Argument → Bool → Bool → Option V → Result (WindowShift V) Fault
 making kind argument reversed ignoring default = made-by kind reversed ignoring default (signed-integer argument)

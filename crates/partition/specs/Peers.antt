@@ -22,6 +22,7 @@ abbrev pub peers-from : {V : Type 0} → (V → V → Bool) → ℕ → List (Op
 peers-from same i [] = []
 peers-from same i (c ∷ cs) = continued same c i (i + 1) cs
 
+-- the groups of all cells
 abbrev pub peers : {V : Type 0} → (V → V → Bool) → List (Option V) → List Group
 peers same cs = peers-from same 0 cs
 

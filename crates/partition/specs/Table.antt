@@ -27,12 +27,15 @@ pub record Input (V : Type 0) : Type 0 where
   pub frames : List Frame
   pub groups : List Group
 
+-- what the lists of a partition hold
 abbrev pub input : {V : Type 0} → WholePartition V → Input V
 input r = record { values = now (r .column .values); marks = now (r .column .marks); frames = now (r .frames .list); groups = now (r .groups .list) }
 
+-- the number of rows
 abbrev pub row-count : {V : Type 0} → Input V → ℕ
 row-count x = length (x .values)
 
+-- an empty list is absent
 abbrev pub absent : {X : Type 0} → List X → Bool
 absent [] = true
 absent (x ∷ xs) = false
@@ -54,6 +57,7 @@ unfit n f = ltb (f .1) (f .0) || ltb n (f .1)
 abbrev pub frames-fault : ℕ → List Frame → Option ℕ
 frames-fault n fs = fault-at (λ i. unfit n (getD fs i (0, 0))) (length fs) n
 
+-- two groups that are not equal
 abbrev pub differ : Group → Group → Bool
 differ g h = not (eqb (g .0) (h .0) && eqb (g .1) (h .1))
 

@@ -23,22 +23,27 @@ use Rattle.run.specs.Run.{Requested, Settled}
 use Rattle.run.specs.Shown.{based}
 use Rattle.replay.specs.History.{Event, Shown, accepted, progress-at, total-of, total-after, close-outcome}
 
+-- the evaluator of a run
 abbrev pub evaluator-of : {S : Type 0} → Run S → S
 evaluator-of (Opened o) = o .evaluator
 evaluator-of (Shut c) = c .evaluator
 
+-- its setting, next row and last frame
 abbrev pub progress-of : {S : Type 0} → Run S → Progress
 progress-of (Opened o) = o .progress
 progress-of (Shut c) = c .progress
 
+-- its total, none while it is open
 abbrev pub total-now : {S : Type 0} → Run S → Option ℕ
 total-now (Opened o) = None
 total-now (Shut c) = Some (c .total)
 
+-- what is noted of a request
 abbrev pub noted : {A : Type 0} → Result A Fault → Outcome A
 noted (Ok x) = Answer x
 noted (Err f) = Refused f
 
+-- what is noted of settling
 abbrev pub noted-done : {A : Type 0} → Result (Unit {0}) Fault → Outcome A
 noted-done (Ok x) = Done
 noted-done (Err f) = Refused f
@@ -50,6 +55,7 @@ Does meaning wants t Settle e e′ b b′ o = (r : Result (Unit {0}) Fault) × S
 Does meaning wants t KeepMark e e′ b b′ o = (o ≡ Mark (meaning e .keep)) × (e′ ≡ e) × (b′ ≡ b)
 Does meaning wants t (Close n) e e′ b b′ o = (o ≡ close-outcome b t n) × (e′ ≡ e) × (b′ ≡ b)
 
+-- one call on a run: what is noted, and what it leaves
 pub record Acted {V A S : Type 0} (meaning : S → Meaning V A) (wants : Bool) (c : Call V) (s s′ : Run S) (n : Entry A) : Type 0 where
   pub mark : n .mark ≡ meaning (evaluator-of s) .keep
   pub total : total-now s′ ≡ total-after (total-now s) c (n .outcome)

@@ -27,11 +27,13 @@ use Rattle.run.specs.Run.{refusal-at, frame-or-none}
 abbrev pub Event : Type 0 → Type 0 → Type 0
 Event V A = Call V × Entry A
 
+-- the events of a list of calls and what was noted of each
 abbrev pub history : {V A : Type 0} → List (Call V) → List (Entry A) → List (Event V A)
 history [] ns = []
 history (c ∷ cs) [] = []
 history (c ∷ cs) (n ∷ ns) = (c, n) ∷ history cs ns
 
+-- an accepted request
 abbrev pub answered : {A : Type 0} → Outcome A → Bool
 answered (Answer x) = true
 answered (Refused f) = false
@@ -39,6 +41,7 @@ answered Done = false
 answered (Mark n) = false
 answered NotTaken = false
 
+-- accepted settling or close
 abbrev pub done : {A : Type 0} → Outcome A → Bool
 done (Answer x) = false
 done (Refused f) = false
@@ -51,6 +54,7 @@ abbrev pub accepted : {V A : Type 0} → List (Event V A) → ℕ
 accepted [] = 0
 accepted (e ∷ es) = cond (answered (e .1 .outcome)) 1 0 + accepted es
 
+-- the frame that a call hands on
 abbrev pub frame-of : {V : Type 0} → Call V → Frame
 frame-of (Request w f) = frame-or-none f
 frame-of Settle = (0, 0)
@@ -86,10 +90,12 @@ Tried i Done = ⊥
 Tried i (Mark n) = ⊥
 Tried i NotTaken = ⊥
 
+-- refused by this check, or past the checks
 abbrev pub ByTable : {A : Type 0} → Option Fault → ℕ → Outcome A → Type 0
 ByTable (Some f) i o = o ≡ Refused f
 ByTable None i o = Tried i o
 
+-- what a close comes to; a closed run does not take one
 abbrev pub close-outcome : {A : Type 0} → Progress → Option ℕ → ℕ → Outcome A
 close-outcome b None n = cond (unfit-total b n) (Refused (BadTotal (b .next))) Done
 close-outcome b (Some t) n = NotTaken
@@ -121,6 +127,7 @@ pub record Right {V A : Type 0} (m : Meaning V A) (p : Partition V) (wants : Boo
   pub early : refusal-at wants b t mark w f ≡ None → o ≡ Refused (TooEarly (b .next)) → settles m p (end-of w) (is-total t (end-of w)) (b .next) ≡ false
   pub timely : refusal-at wants b t mark w f ≡ None → settles m p (end-of w) (is-total t (end-of w)) (b .next) ≡ false → o ≡ Refused (TooEarly (b .next))
 
+-- what each call gives of a partition that is shown
 abbrev pub AsWhole : {V A : Type 0} → Meaning V A → Partition V → Bool → Progress → Option ℕ → ℕ → Call V → Outcome A → Type 0
 AsWhole m p wants b t mark (Request w f) o = Right m p wants b t mark w f o
 AsWhole m p wants b t mark Settle o = Unit {0}

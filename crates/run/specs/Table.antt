@@ -17,6 +17,7 @@ use Rattle.run.specs.declared.progress.Progress.{Progress}
 use Rattle.partition.specs.Table.{Frame}
 use Rattle.column.specs.Refusal.{row-limit}
 
+-- no frame is handed over
 abbrev pub absent : Option Frame → Bool
 absent None = true
 absent (Some f) = false
@@ -26,6 +27,7 @@ abbrev pub is-total : Option ℕ → ℕ → Bool
 is-total None n = false
 is-total (Some t) n = eqb n t
 
+-- of a closed run, whether n lies above its total
 abbrev pub above-total : Option ℕ → ℕ → Bool
 above-total None n = false
 above-total (Some t) n = ltb t n

@@ -9,6 +9,7 @@ use Rattle.std.specs.BTreeMap.{Ordered, at-text, size}
 use Rattle.std.specs.OwnedKeys.{strings}
 
 module _ {Y Z : Type 0} where
+  -- names in order, each with a number of its own below the number of names
   pub record Names (m : BTreeMap (String Y) ℕ Z) : Type 0 where
     pub ordered : Ordered strings m
     pub below : (v : List ℕ) (n : ℕ) → at-text m v ≡ Some n → n < size m

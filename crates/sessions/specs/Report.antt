@@ -17,6 +17,7 @@ use Rattle.sessions.specs.Sessions.{Cell, LastRenewed, sessions-in}
 abbrev pub head-text : List ℕ → List ℕ
 head-text line = line ++ codes ",last_renewed_expiry\n"
 
+-- a line with an answer that is a number
 abbrev pub answered-text : List ℕ → ℤ → List ℕ
 answered-text line t = line ++ (codes "," ++ (signed t ++ codes "\n"))
 
@@ -25,11 +26,13 @@ abbrev pub row-text : List ℕ → Cell → List ℕ
 row-text line None = line ++ codes ",\n"
 row-text line (Some t) = answered-text line (t .0)
 
+-- each line with its answer
 abbrev pub rows-text : List Record → List Cell → List ℕ
 rows-text [] cs = []
 rows-text (r ∷ rs) [] = []
 rows-text (r ∷ rs) (c ∷ cs) = row-text (r .line .now) c ++ rows-text rs cs
 
+-- the expiry of a record
 abbrev pub expiry-of : Record → Cell
 expiry-of r = r .expiry
 
@@ -39,6 +42,7 @@ nulls [] = 0
 nulls (None ∷ cs) = 1 + nulls cs
 nulls (Some t ∷ cs) = nulls cs
 
+-- the summary, of these numbers
 abbrev pub summary-text : ℕ → ℕ → ℕ → ℕ → List ℕ
 summary-text sessions records empty defaults =
     codes "# sessions: " ++ (decimal sessions ++ (codes "\n# records: " ++ (decimal records ++ (codes "\n# empty expiries: " ++ (decimal empty

@@ -34,6 +34,7 @@ abbrev pub cells-of : List ℕ → List Record → List Cell
 cells-of s [] = []
 cells-of s (r ∷ rs) = cond (sameBytes s (session r)) (r .expiry ∷ cells-of s rs) (cells-of s rs)
 
+-- the later of two cells that is present
 abbrev pub later : Cell → Cell → Cell
 later c None = c
 later c (Some x) = Some x
@@ -58,6 +59,7 @@ pub record Numbered (rows : List Record) (numbers : List ℕ) (count : ℕ) : Ty
   pub one : (i j : ℕ) → i < length rows → j < length rows → session-at rows i ≡ session-at rows j → getD numbers i 0 ≡ getD numbers j 0
   pub apart : (i j : ℕ) → i < length rows → j < length rows → getD numbers i 0 ≡ getD numbers j 0 → session-at rows i ≡ session-at rows j
 
+-- the lists in a list of lists
 abbrev pub lists : {Y Z : Type 0} → Vec (Vec Cell Y) Z → List (List Cell)
 lists v = map vec-items (vec-items v)
 
