@@ -157,7 +157,7 @@ fn answer(heap: Global, text: &str) -> Result<String, Stop> {
 }
 
 // A line with what it found in the place of what it stated; a comment or an empty line as it is.
-pub fn answer_line(heap: Global, line: &str) -> Result<String, Stop> {
+pub(crate) fn answer_line(heap: Global, line: &str) -> Result<String, Stop> {
     if line.is_empty() || line.starts_with('#') {
         return Ok(String::from_str(heap, line)?);
     }

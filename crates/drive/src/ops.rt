@@ -88,7 +88,10 @@ fn read_step<K: Value>(heap: Global, cursor: &mut Cursor<'_>) -> Result<Step<K>,
 }
 
 // The operations up to the line's end.
-pub fn read_steps<K: Value>(heap: Global, cursor: &mut Cursor<'_>) -> Result<Vec<Step<K>>, Stop> {
+pub(crate) fn read_steps<K: Value>(
+    heap: Global,
+    cursor: &mut Cursor<'_>,
+) -> Result<Vec<Step<K>>, Stop> {
     let mut steps = Vec::new(heap);
     for _ in 0..cursor.left() {
         if cursor.is_end() {

@@ -117,7 +117,7 @@ fn show_outcome<K: Value>(heap: Global, outcome: Outcome<Option<K>>) -> Result<S
 }
 
 // The operations, each with its outcome; after an accepted finish there is none.
-pub fn answer_run<K: Value>(
+pub(crate) fn answer_run<K: Value>(
     heap: Global,
     shift: &WindowShift<K>,
     from_zero: bool,

@@ -154,7 +154,7 @@ fn call<K: Value>(
 }
 
 // The outcome of a call that is read from here on.
-pub fn answer_whole<K: Value>(
+pub(crate) fn answer_whole<K: Value>(
     heap: Global,
     cursor: &mut Cursor<'_>,
     made: Result<WindowShift<K>, Fault>,

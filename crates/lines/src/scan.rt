@@ -2,8 +2,9 @@
 ghost use mathlib.Core.Path.{_≡_};
 ghost use mathlib.Core.Bool.{cond};
 ghost use Prim.Native.Nat.{_+_, _-_, _≤_};
-ghost use lib.Dec.{T};
+ghost use lib.Dec.{T, leb};
 ghost use lib.ListN.{length, getD, take, drop};
+ghost use Rattle.std.specs.Options.{Cases as BySome};
 ghost use Rattle.std.specs.Vec.{made};
 ghost use Rattle.std.specs.declared.result.Result.the-variants.{Ok};
 ghost use Rattle.lines.specs.Cursors.{Onward};
@@ -65,19 +66,25 @@ impl<'a> Cursor<'a> {
     }
 
     // The column of this place, as where reading stopped.
-    pub fn bad(&self) -> Bad {
+    pub fn bad(&self) -> Bad
+        ensures { λ r. ⌜ r .column ≡ now (self .entry) .at + 1 ⌝ }
+    {
         Bad {
-            column: self.at.saturating_add(1),
+            column: self.at + 1,
         }
     }
 
     // How many bytes are left.
-    pub fn left(&self) -> usize {
+    pub fn left(&self) -> usize
+        ensures { λ r. ⌜ r ≡ length (now (now (self .entry) .text)) - now (self .entry) .at ⌝ }
+    {
         self.text.len() - self.at
     }
 
     // The next byte.
-    pub fn peek(&self) -> Option<u8> {
+    pub fn peek(&self) -> Option<u8>
+        ensures { λ r. ⌜ BySome r (length (now (now (self .entry) .text)) ≤ now (self .entry) .at) (λ b. b ≡ getD (now (now (self .entry) .text)) (now (self .entry) .at) 0) ⌝ }
+    {
         self.text.as_bytes().get(self.at).copied()
     }
 
@@ -146,12 +153,16 @@ impl<'a> Cursor<'a> {
     }
 
     // Whether the line ends here.
-    pub fn is_end(&self) -> bool {
+    pub fn is_end(&self) -> bool
+        ensures { λ r. ⌜ r ≡ leb (length (now (now (self .entry) .text))) (now (self .entry) .at) ⌝ }
+    {
         self.at >= self.text.len()
     }
 
     // Asks that the line ends here.
-    pub fn end(&self) -> Result<(), Bad> {
+    pub fn end(&self) -> Result<(), Bad>
+        ensures { λ r. ⌜ made r (λ _. length (now (now (self .entry) .text)) ≡ now (self .entry) .at) ⌝ }
+    {
         if self.is_end() {
             return Ok(());
         }
