@@ -1,3 +1,5 @@
+#![tactic(auto)]
+
 pub mod column;
 pub mod fault;
 pub mod kind;

@@ -1,3 +1,5 @@
+#![tactic(auto)]
+
 // `drive [FILE]` reads lines that stand for calls, from FILE or from standard input, and writes each with its outcome.
 mod line;
 mod ops;

@@ -1,3 +1,5 @@
+#![tactic(auto)]
+
 pub mod cells;
 pub mod evaluator;
 pub mod mirror;

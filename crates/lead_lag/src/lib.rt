@@ -1,6 +1,8 @@
 // Ported from `lead_lag.rs` of the crate datafusion-functions-window 55.0.0 (Apache-2.0), and changed:
 // the planner's part is left out, the caller lends the output, and a count with the row of the oldest
 // stands for the queue of distances between present rows.
+#![tactic(auto)]
+
 ghost use Rattle.std.specs.Prelude.{◌≡◌, false, FitsSigned};
 ghost use Rattle.std.specs.Int.{w64};
 ghost use Rattle.run.specs.Rows.{Handed, RowCall, left_by};

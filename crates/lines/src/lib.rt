@@ -1,3 +1,5 @@
+#![tactic(auto)]
+
 // Lines of text that stand for calls: their words read, and values shown.
 pub mod column;
 pub mod cursor;

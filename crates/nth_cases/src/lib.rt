@@ -1,3 +1,5 @@
+#![tactic(auto)]
+
 // Tests of FIRST_VALUE, LAST_VALUE and NTH_VALUE.
 mod frames;
 mod runs;

@@ -1,6 +1,8 @@
 // Ported from `nth_value.rs` of the crate datafusion-functions-window 55.0.0 (Apache-2.0), and changed:
 // the planner's part is left out, the caller lends the output, frames in order cost one pass over the rows,
 // and a row call is told its window and refuses a row that is too early.
+#![tactic(auto)]
+
 ghost use Rattle.std.specs.Prelude.{◌≡◌, true, false, ◌&&◌, ◌||◌, pos, FitsSigned, nat_le, nat_lt};
 ghost use Rattle.std.specs.Int.{w64};
 ghost use Rattle.column.specs.Cells.{view};

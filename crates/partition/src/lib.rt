@@ -1,2 +1,4 @@
+#![tactic(auto)]
+
 pub mod peers;
 pub mod whole;

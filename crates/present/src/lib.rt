@@ -1,2 +1,4 @@
+#![tactic(auto)]
+
 pub mod held;
 pub mod scan;

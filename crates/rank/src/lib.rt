@@ -1,3 +1,5 @@
+#![tactic(auto)]
+
 ghost use Rattle.rank.specs.Cases.{Cases};
 
 pub mod cume_dist;

@@ -1,3 +1,5 @@
+#![tactic(auto)]
+
 pub mod closed;
 mod progress;
 pub mod rows;

@@ -1,3 +1,5 @@
+#![tactic(auto)]
+
 // The desk's session records: read, answered session by session, and reported.
 pub mod answers;
 mod cells;

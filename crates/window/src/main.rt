@@ -1,3 +1,5 @@
+#![tactic(auto)]
+
 // The desk's program: `window [FILE]` writes the report of FILE, or of standard input.
 use anyhow::anyhow;
 use sessions::report::report;
