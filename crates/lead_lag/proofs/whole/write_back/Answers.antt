@@ -17,4 +17,4 @@ pub loop-i-preserved : goal.loop-i-preserved
 loop-i-preserved g c =
     let o = g.row.O-Output in
     let rows = column_cells c.args.column.now in
-    (one_more o.slots o.stored o.size o.place o.laws _ _ _ _ _ _ _ c.loop-i.invariant.0 c.put.ensures.slots c.put.ensures.place (back_answer c.args.column.now c.args.m c.args.default c.loop-i.held c.loop-i.i c.oldest_source.result c.take-cell-answer.result c.requires.looks c.loop-i.invariant.1 c.oldest_source.ensures c.take-cell-answer.ensures), subst (λ (h : Held). Holding (Back c.args.m) true h rows (c.loop-i.i + 1)) (sym c.count-row-held.ensures) (back_on c.args.column.now c.args.m c.loop-i.held c.loop-i.i c.requires.looks c.loop-i.invariant.1))
+    (one_more o.slots o.stored o.size o.place o.laws _ _ _ _ _ _ _ c.loop-i.invariant.0 c.put.ensures.slots c.put.ensures.place (back_answer c.args.column.now c.args.m c.args.default c.loop-i.held c.loop-i.i c.oldest_source.result c.take_cell-answer.result c.requires.looks c.loop-i.invariant.1 c.oldest_source.ensures c.take_cell-answer.ensures), subst (λ (h : Held). Holding (Back c.args.m) true h rows (c.loop-i.i + 1)) (sym c.count_row-held.ensures) (back_on c.args.column.now c.args.m c.loop-i.held c.loop-i.i c.requires.looks c.loop-i.invariant.1))

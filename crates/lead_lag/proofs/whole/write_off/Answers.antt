@@ -13,4 +13,4 @@ pub loop-i-preserved : goal.loop-i-preserved
 loop-i-preserved g c =
     let o = g.row.O-Output in
     let long = length-cells c.args.column.now.values.now c.args.column.now.marks.now c.requires.lengths in
-    one_more o.slots o.stored o.size o.place o.laws _ _ _ _ _ _ _ c.loop-i.invariant c.put.ensures.slots c.put.ensures.place (off_answer c.args.column.now c.args.way c.args.default _ c.loop-i.i c.row_off.result c.take-cell-answer.result (sym long) c.row_off.ensures c.take-cell-answer.ensures)
+    one_more o.slots o.stored o.size o.place o.laws _ _ _ _ _ _ _ c.loop-i.invariant c.put.ensures.slots c.put.ensures.place (off_answer c.args.column.now c.args.way c.args.default _ c.loop-i.i c.row_off.result c.take_cell-answer.result (sym long) c.row_off.ensures c.take_cell-answer.ensures)

@@ -12,16 +12,16 @@ use Rattle.nth_value.specs.Nth.{frame_answers}
 use Rattle.nth_value.proofs.Cursors.{pick_proper}
 use Rattle.nth_value.proofs.NthValueEvaluator.evaluate_all.Goals as goal
 
-pub returns-in-err-check-whole : goal.returns-in-err-check-whole
-returns-in-err-check-whole g c =
+pub returns-in_err-check_whole : goal.returns-in_err-check_whole
+returns-in_err-check_whole g c =
     let o = g.row.O-Output in
-    let p = err_from_is_err_and c.from-residual.result c.from-residual.ensures.1 in
-    let e = refuses g.K.Kind.same true false (input c.args.rows.now) (o.size (o.slots c.args.out.now)) c.len.result c.in-err-check-whole.field-0.0 c.len.ensures c.in-err-check-whole.ensures.checked in
+    let p = err_from_is_err_and c.from_residual.result c.from_residual.ensures.1 in
+    let e = refuses g.K.Kind.same true false (input c.args.rows.now) (o.size (o.slots c.args.out.now)) c.len.result c.in_err-check_whole.field-0.0 c.len.ensures c.in_err-check_whole.ensures.checked in
     record { call = call-refused _ _ _ _ _ _ _ e (p.1 ∙ ap Err p.2); place = o.laws.refl _ }
 
-pub write-all-requires : goal.write-all-requires
-write-all-requires g c =
-    let a = c.in-ok-check-whole.ensures.accepted refl in
+pub write_all-requires : goal.write_all-requires
+write_all-requires g c =
+    let a = c.in_ok-check_whole.ensures.accepted refl in
     record {
       lengths = a.lengths;
       limited = a.limited;
@@ -36,7 +36,7 @@ returns g c =
     let o = g.row.O-Output in
     let x = input c.args.rows.now in
     let s = c.args.self.now in
-    let e = accepts g.K.Kind.same true false x (o.size (o.slots c.args.out.now)) c.len.result c.in-ok-check-whole.field-0 c.len.ensures c.in-ok-check-whole.ensures.checked in
+    let e = accepts g.K.Kind.same true false x (o.size (o.slots c.args.out.now)) c.len.result c.in_ok-check_whole.field-0 c.len.ensures c.in_ok-check_whole.ensures.checked in
     let f : SFits w64 s.n = search rules in
     let pick = c.pick_of.ensures ∙ ap (pick_of s.kind) (to_z-of_z w64 s.n f) in
-    record { call = call-done _ _ _ _ _ _ e (c.write-all.ensures.slots ∙ ap (λ (p : Pick). written o.stored (frame_answers p s.ignore_nulls (cells x.values x.marks) x.frames) (o.slots c.args.out.now) (row_count x)) pick); place = c.write-all.ensures.place }
+    record { call = call-done _ _ _ _ _ _ e (c.write_all.ensures.slots ∙ ap (λ (p : Pick). written o.stored (frame_answers p s.ignore_nulls (cells x.values x.marks) x.frames) (o.slots c.args.out.now) (row_count x)) pick); place = c.write_all.ensures.place }

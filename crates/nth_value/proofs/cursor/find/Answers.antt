@@ -12,8 +12,8 @@ returns-in-Ahead g c rows all n k =
     let w = c.args.window.now in
     let is = c.in-Ahead.is in
     let a = subst (λ (x : Cursor). Knows rows x) is k in
-    let d = c.find-ahead-row.ensures.found (known-ahead w rows all c.args.n n c.in-Ahead.known a) in (
-      told_ahead w rows all c.args.n n c.find-ahead-row.result.0 d.0,
+    let d = c.find_ahead-row.ensures.found (known-ahead w rows all c.args.n n c.in-Ahead.known a) in (
+      told_ahead w rows all c.args.n n c.find_ahead-row.result.0 d.0,
       d.1 ∙ (ap (λ (xs : List ℕ). slice_get xs (c.in-Ahead.known.m - 1)) (shown-ahead w rows all c.args.frame.0 (c.args.frame.1 - c.args.frame.0)) ∙ ap (λ (x : Cursor). finds x rows c.args.frame) (sym is)),
-      λ f. ap (λ (m : ℕ). slice_get (ahead (at rows) f.0 (f.1 - f.0)) (m - 1)) c.find-ahead-row.ensures.same ∙ ap (λ (x : Cursor). finds x rows f) (sym is),
+      λ f. ap (λ (m : ℕ). slice_get (ahead (at rows) f.0 (f.1 - f.0)) (m - 1)) c.find_ahead-row.ensures.same ∙ ap (λ (x : Cursor). finds x rows f) (sym is),
     )

@@ -16,7 +16,7 @@ loop-i-init g c =
     let o = g.row.O-Output in
     let col = c.args.column.now in
     let long = length-cells col.values.now col.marks.now c.requires.lengths in
-    let k = c.cursor-of-cursor.ensures (column_cells col) (view-all col) (sym long) in
+    let k = c.cursor_of-cursor.ensures (column_cells col) (view-all col) (sym long) in
     (none_written o.slots o.stored o.size o.place o.laws _ _ _ c.requires.room, k.0, λ f. refl)
 
 pub put-requires : goal.put-requires
@@ -30,7 +30,7 @@ loop-i-preserved g c =
     let long = length-cells col.values.now col.marks.now c.requires.lengths in
     let f = get_or c.args.frames.now c.loop-i.i (0, 0) in
     let k = c.find-next.ensures rows (view-all col) (sym long) c.loop-i.invariant.1 in (
-      one_more o.slots o.stored o.size o.place o.laws _ _ _ _ _ _ _ c.loop-i.invariant.0 c.put.ensures.slots c.put.ensures.place (found_cell col c.find-next.result.1 (finds c.cursor-of-cursor.result rows f) c.cell_of.result (k.1 ∙ c.loop-i.invariant.2 f) c.cell_of.ensures),
+      one_more o.slots o.stored o.size o.place o.laws _ _ _ _ _ _ _ c.loop-i.invariant.0 c.put.ensures.slots c.put.ensures.place (found_cell col c.find-next.result.1 (finds c.cursor_of-cursor.result rows f) c.cell_of.result (k.1 ∙ c.loop-i.invariant.2 f) c.cell_of.ensures),
       k.0,
       λ g. k.2 g ∙ c.loop-i.invariant.2 g,
     )
@@ -41,9 +41,9 @@ returns g c =
     let col = c.args.column.now in
     let rows = column_cells col in
     let long = length-cells col.values.now col.marks.now c.requires.lengths in
-    let k = c.cursor-of-cursor.ensures rows (view-all col) (sym long) in
+    let k = c.cursor_of-cursor.ensures rows (view-all col) (sym long) in
     let all : c.loop-i.i ≡ length col.values.now = omega (arith, c.loop-i-test.false, c.loop-i.auto.i-end, c.requires.framed) in
     record {
-      slots = c.loop-i.invariant.0.holds ∙ (ap (λ (n : ℕ). written o.stored (λ i. cell_of (at rows) (finds c.cursor-of-cursor.result rows (get_or c.args.frames.now i (0, 0)))) (o.slots c.args.out.now) n) all ∙ written_same o.stored (λ i. cell_of (at rows) (finds c.cursor-of-cursor.result rows (get_or c.args.frames.now i (0, 0)))) (frame_answers c.args.pick c.args.ignore-nulls rows c.args.frames.now) (o.slots c.args.out.now) (length col.values.now) (λ i l. ap (cell_of (at rows)) (k.1 (get_or c.args.frames.now i (0, 0)))));
+      slots = c.loop-i.invariant.0.holds ∙ (ap (λ (n : ℕ). written o.stored (λ i. cell_of (at rows) (finds c.cursor_of-cursor.result rows (get_or c.args.frames.now i (0, 0)))) (o.slots c.args.out.now) n) all ∙ written_same o.stored (λ i. cell_of (at rows) (finds c.cursor_of-cursor.result rows (get_or c.args.frames.now i (0, 0)))) (frame_answers c.args.pick c.args.ignore_nulls rows c.args.frames.now) (o.slots c.args.out.now) (length col.values.now) (λ i l. ap (cell_of (at rows)) (k.1 (get_or c.args.frames.now i (0, 0)))));
       place = c.loop-i.invariant.0.stays;
     }

@@ -5,7 +5,7 @@ use Rattle.partition.proofs.Groups.{at_group, at_end}
 use Rattle.partition.proofs.peers.count_groups.Goals as goal
 
 pub loop-start-preserved : goal.loop-start-preserved
-loop-start-preserved g c = (at_group g.K.Kind.same (column_cells c.args.column.now) c.loop-start.count c.loop-start.start c.group-end-start.result c.loop-start.invariant c.group-end-start.ensures).2
+loop-start-preserved g c = (at_group g.K.Kind.same (column_cells c.args.column.now) c.loop-start.count c.loop-start.start c.group_end-start.result c.loop-start.invariant c.group_end-start.ensures).2
 
 pub returns : goal.returns
 returns g c =

@@ -3,8 +3,8 @@ use Rattle.column.specs.Cells.{column_cells}
 use Rattle.column.proofs.Cells.{length-cells}
 use Rattle.partition.proofs.peers.group_end.Goals as goal
 
-pub returns-then-not-same-cell : goal.returns-then-not-same-cell
-returns-then-not-same-cell g c =
+pub returns-then-not-same_cell : goal.returns-then-not-same_cell
+returns-then-not-same_cell g c =
     let long = length-cells c.args.column.now.values.now c.args.column.now.marks.now c.requires.lengths in
     record { nonempty = omega arith; within = omega (arith, long); alike = c.loop-i.invariant; stops = λ h. search rules }
 

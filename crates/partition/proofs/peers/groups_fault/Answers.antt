@@ -19,14 +19,14 @@ pub returns-then-differ : goal.returns-then-differ
 returns-then-differ g c =
     let gs = c.args.groups.now in
     let ps = column_groups g.K.Kind.same c.args.column.now in
-    let a = at_group g.K.Kind.same (column_cells c.args.column.now) c.loop-k.k c.loop-k.start c.group-end-end.result c.loop-k.invariant.0 c.group-end-end.ensures in
+    let a = at_group g.K.Kind.same (column_cells c.args.column.now) c.loop-k.k c.loop-k.start c.group_end-end.result c.loop-k.invariant.0 c.group_end-end.ensures in
     fault_some (λ k. differ (get_or gs k (0, 0)) (get_or ps k (0, 0))) (length gs) (length ps) c.loop-k.k (omega (arith, a.0)) (omega (arith, a.0)) c.loop-k.invariant.1 (λ h. rw a.1 (search rules))
 
 pub loop-k-preserved : goal.loop-k-preserved
 loop-k-preserved g c =
     let gs = c.args.groups.now in
     let ps = column_groups g.K.Kind.same c.args.column.now in
-    let a = at_group g.K.Kind.same (column_cells c.args.column.now) c.loop-k.k c.loop-k.start c.group-end-end.result c.loop-k.invariant.0 c.group-end-end.ensures in
+    let a = at_group g.K.Kind.same (column_cells c.args.column.now) c.loop-k.k c.loop-k.start c.group_end-end.result c.loop-k.invariant.0 c.group_end-end.ensures in
     (a.2, below_more (λ k. differ (get_or gs k (0, 0)) (get_or ps k (0, 0)) ≡ false) c.loop-k.k c.loop-k.invariant.1 (rw a.1 (search rules)))
 
 pub returns-then-start-n-2 : goal.returns-then-start-n-2

@@ -4,7 +4,7 @@ use Rattle.partition.proofs.peers.peer_groups.Goals as goal
 
 pub returns : goal.returns
 returns g c = record {
-  result = c.work-out.ensures.result;
-  list = c.work-out.ensures.list;
+  result = c.work_out.ensures.result;
+  list = c.work_out.ensures.list;
   law = peer_law g.K.Kind.same g.met.K.Kind.reflexive (column_cells c.args.column.now);
 }

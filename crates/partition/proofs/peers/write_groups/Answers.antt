@@ -17,13 +17,13 @@ front_more ps old now k g h room e n =
 
 pub bounds-groups-k : goal.bounds-groups-k
 bounds-groups-k g c =
-    let a = at_group g.K.Kind.same (column_cells c.args.column.now) c.loop-start.k c.loop-start.start c.group-end-end.result c.loop-start.invariant.0 c.group-end-end.ensures in
+    let a = at_group g.K.Kind.same (column_cells c.args.column.now) c.loop-start.k c.loop-start.start c.group_end-end.result c.loop-start.invariant.0 c.group_end-end.ensures in
     omega (arith, a.0, c.requires.room)
 
 pub loop-start-preserved : goal.loop-start-preserved
 loop-start-preserved g c =
-    let a = at_group g.K.Kind.same (column_cells c.args.column.now) c.loop-start.k c.loop-start.start c.group-end-end.result c.loop-start.invariant.0 c.group-end-end.ensures in
-    (a.2, front_more (column_groups g.K.Kind.same c.args.column.now) c.args.groups.now c.loop-start.groups c.loop-start.k (c.loop-start.start, c.group-end-end.result) a.0 c.requires.room a.1 c.loop-start.invariant.1)
+    let a = at_group g.K.Kind.same (column_cells c.args.column.now) c.loop-start.k c.loop-start.start c.group_end-end.result c.loop-start.invariant.0 c.group_end-end.ensures in
+    (a.2, front_more (column_groups g.K.Kind.same c.args.column.now) c.args.groups.now c.loop-start.groups c.loop-start.k (c.loop-start.start, c.group_end-end.result) a.0 c.requires.room a.1 c.loop-start.invariant.1)
 
 pub returns : goal.returns
 returns g c =

@@ -8,7 +8,7 @@ use Rattle.partition.proofs.whole.check_whole.Goals as goal
 
 pub returns : goal.returns
 returns g c = record {
-  checked = c.first-fault.ensures;
-  accepted = λ e. whole_says g.K.Kind.same c.args.wants_frames c.args.wants_groups (input c.args.partition.now) c.args.slots (passed (whole_refusal g.K.Kind.same c.args.wants_frames c.args.wants_groups (input c.args.partition.now) c.args.slots) tt (sym e ∙ c.first-fault.ensures));
+  checked = c.first_fault.ensures;
+  accepted = λ e. whole_says g.K.Kind.same c.args.wants_frames c.args.wants_groups (input c.args.partition.now) c.args.slots (passed (whole_refusal g.K.Kind.same c.args.wants_frames c.args.wants_groups (input c.args.partition.now) c.args.slots) tt (sym e ∙ c.first_fault.ensures));
   peers = peer_law g.K.Kind.same g.met.K.Kind.reflexive (column_cells c.args.partition.now.column);
 }

@@ -9,4 +9,4 @@ loop-row-init g c =
 pub loop-row-preserved : goal.loop-row-preserved
 loop-row-preserved g c =
     let o = g.row.O-Output in
-    one_more o.slots o.stored o.size o.place o.laws _ _ _ _ _ _ _ c.loop-row.invariant c.put.ensures.slots c.put.ensures.place c.row-number.ensures
+    one_more o.slots o.stored o.size o.place o.laws _ _ _ _ _ _ _ c.loop-row.invariant c.put.ensures.slots c.put.ensures.place c.row_number.ensures

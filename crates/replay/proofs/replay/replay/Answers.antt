@@ -20,8 +20,8 @@ loop-call-init g c = (
   follow_start (λ e. (g.E.Evaluator.meaning e).keep) g.E.RowEvaluator.stepped g.E.RowEvaluator.settling g.E.Evaluator.frames c.args.from_zero c.new.result.evaluator (Opened c.new.result) refl,
 )
 
-pub returns-in-err-push : goal.returns-in-err-push
-returns-in-err-push g c = let p = err_from_is_err_and c.from-residual.result c.from-residual.ensures.1 in rw p.1 tt
+pub returns-in_err-push : goal.returns-in_err-push
+returns-in_err-push g c = let p = err_from_is_err_and c.from_residual.result c.from_residual.ensures.1 in rw p.1 tt
 
 pub loop-call-preserved : goal.loop-call-preserved
 loop-call-preserved g c =
@@ -31,9 +31,9 @@ loop-call-preserved g c =
     let notes' = vec_items c.push.new.self in
     let entry = c.act-moved.result.1 in
     let inv = c.loop-call.invariant in (
-      turns g.E.Evaluator.meaning g.met.E.Evaluator.lawful c.new.result.evaluator g.E.Evaluator.frames c.args.from_zero c.loop-call.run c.act-moved.result.0 calls i c.call-item.result notes notes' entry inv.0 inv.1 c.loop-call-test.true c.call-item.is c.act-moved.ensures.acted c.in-ok-push.ensures.items,
-      ap length c.in-ok-push.ensures.items ∙ (length_push notes entry ∙ ap (λ (k : ℕ). k + 1) inv.1),
-      follow_turn (λ e. (g.E.Evaluator.meaning e).keep) g.E.RowEvaluator.stepped g.E.RowEvaluator.settling g.E.Evaluator.frames c.args.from_zero g.E.Evaluator.meaning c.new.result.evaluator c.loop-call.run c.act-moved.result.0 calls i c.call-item.result notes notes' entry inv.2 inv.0.progress inv.1 c.loop-call-test.true c.call-item.is c.act-moved.ensures.acted.mark c.act-moved.ensures.leaves c.in-ok-push.ensures.items,
+      turns g.E.Evaluator.meaning g.met.E.Evaluator.lawful c.new.result.evaluator g.E.Evaluator.frames c.args.from_zero c.loop-call.run c.act-moved.result.0 calls i c.call-item.result notes notes' entry inv.0 inv.1 c.loop-call-test.true c.call-item.is c.act-moved.ensures.acted c.in_ok-push.ensures.items,
+      ap length c.in_ok-push.ensures.items ∙ (length_push notes entry ∙ ap (λ (k : ℕ). k + 1) inv.1),
+      follow_turn (λ e. (g.E.Evaluator.meaning e).keep) g.E.RowEvaluator.stepped g.E.RowEvaluator.settling g.E.Evaluator.frames c.args.from_zero g.E.Evaluator.meaning c.new.result.evaluator c.loop-call.run c.act-moved.result.0 calls i c.call-item.result notes notes' entry inv.2 inv.0.progress inv.1 c.loop-call-test.true c.call-item.is c.act-moved.ensures.acted.mark c.act-moved.ensures.leaves c.in_ok-push.ensures.items,
     )
 
 pub returns : goal.returns

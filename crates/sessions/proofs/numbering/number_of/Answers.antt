@@ -15,7 +15,7 @@ returns c =
     let old = c.args.numbers.now in
     let new = c.insert.new.self in
     let got = text.found old c.args.name.now (search rules) _ c.get.ensures.finds c.requires.ordered in
-    let free = sym got ∙ ap (option_map (λ x. x.now)) c.in-default.is in
-    let key = IfOk-at_ok (λ s. string_bytes s ≡ c.args.name.now) c.in-ok-key.was c.from-str.ensures.ok in
-    let put = rw c.in-ok-insert.was at c.insert.ensures.inserted in
-    grown old new c.in-ok-key.key c.args.name.now c.len-next.result _ c.requires free key c.len-next.ensures put
+    let free = sym got ∙ ap (option_map (λ x. x.now)) c.in_default.is in
+    let key = IfOk-at_ok (λ s. string_bytes s ≡ c.args.name.now) c.in_ok-key.was c.from_str.ensures.ok in
+    let put = rw c.in_ok-insert.was at c.insert.ensures.inserted in
+    grown old new c.in_ok-key.key c.args.name.now c.len-next.result _ c.requires free key c.len-next.ensures put

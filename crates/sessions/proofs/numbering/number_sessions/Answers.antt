@@ -4,7 +4,7 @@ use Rattle.sessions.proofs.Numbers.{Told, told_more, numbered}
 use Rattle.sessions.proofs.numbering.number_sessions.Goals as goal
 
 pub loop-record-preserved : goal.loop-record-preserved
-loop-record-preserved c = told_more c.args.records.now c.loop-record.known c.number-of.new.numbers c.loop-record.record-index _ _ _ _ c.loop-record-test.true c.loop-record.invariant c.in-ok-n.ensures c.in-ok-push.ensures.items
+loop-record-preserved c = told_more c.args.records.now c.loop-record.known c.number_of.new.numbers c.loop-record.record-index _ _ _ _ c.loop-record-test.true c.loop-record.invariant c.in_ok-n.ensures c.in_ok-push.ensures.items
 
 pub returns : goal.returns
 returns c =

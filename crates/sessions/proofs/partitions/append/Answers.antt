@@ -8,5 +8,5 @@ returns c =
     let cells = c.index-mut-cells.result.now in
     record {
       place = length_at old c.args.session cells c.requires c.index-mut-cells.ensures.value _ c.len-place.ensures;
-      after = append_at old c.args.session cells c.requires c.index-mut-cells.ensures.value _ _ c.in-ok-push.ensures.items;
+      after = append_at old c.args.session cells c.requires c.index-mut-cells.ensures.value _ _ c.in_ok-push.ensures.items;
     }

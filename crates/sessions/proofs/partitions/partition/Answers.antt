@@ -5,13 +5,13 @@ use Rattle.sessions.proofs.partitions.partition.Goals as goal
 
 pub loop-i-preserved : goal.loop-i-preserved
 loop-i-preserved c =
-    let grouped = grouped_step c.requires c.loop-i.i _ _ _ _ _ _ _ _ c.loop-i-test.true c.loop-i.invariant.0 c.index.ensures c.in-ok-place.ensures.place c.in-ok-place.ensures.after c.in-ok-push.ensures.items in
-    (grouped, bounded_step _ _ _ _ _ c.loop-i.invariant.1 c.in-ok-place.ensures.place (omega arith) c.in-ok-place.ensures.after)
+    let grouped = grouped_step c.requires c.loop-i.i _ _ _ _ _ _ _ _ c.loop-i-test.true c.loop-i.invariant.0 c.index.ensures c.in_ok-place.ensures.place c.in_ok-place.ensures.after c.in_ok-push.ensures.items in
+    (grouped, bounded_step _ _ _ _ _ c.loop-i.invariant.1 c.in_ok-place.ensures.place (omega arith) c.in_ok-place.ensures.after)
 
 pub loop-i-init : goal.loop-i-init
 loop-i-init c = (
-  subst (λ ps. Grouped c.args.records.now (vec_items c.args.numbering.now.numbers) 0 (lists c.in-ok-cells.cells) ps) (sym c.new-places.ensures.items) (grouped_none c.requires (lists c.in-ok-cells.cells) c.in-ok-cells.ensures),
-  bounded_none _ c.args.numbering.now.count c.in-ok-cells.ensures,
+  subst (λ ps. Grouped c.args.records.now (vec_items c.args.numbering.now.numbers) 0 (lists c.in_ok-cells.cells) ps) (sym c.new-places.ensures.items) (grouped_none c.requires (lists c.in_ok-cells.cells) c.in_ok-cells.ensures),
+  bounded_none _ c.args.numbering.now.count c.in_ok-cells.ensures,
 )
 
 pub append-requires : goal.append-requires

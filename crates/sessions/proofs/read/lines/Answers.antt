@@ -3,4 +3,4 @@ use Rattle.sessions.proofs.Lines.{lines_made}
 use Rattle.sessions.proofs.read.lines.Goals as goal
 
 pub returns : goal.returns
-returns c = record { lines = lines_made vec_items c.args.text.now c.without-end.result.now c.pieces.result c.without-end.ensures c.pieces.ensures.whole c.pieces.ensures.apart; some = c.pieces.ensures.some }
+returns c = record { lines = lines_made vec_items c.args.text.now c.without_end.result.now c.pieces.result c.without_end.ensures c.pieces.ensures.whole c.pieces.ensures.apart; some = c.pieces.ensures.some }

@@ -4,4 +4,4 @@ use Rattle.sessions.proofs.Lines.{stripped_by}
 use Rattle.sessions.proofs.read.without_end.Goals as goal
 
 pub returns : goal.returns
-returns c = stripped_by 10 c.args.text c.unwrap-or.result c.strip-suffix.result (strip_suffix_char 10 c.args.text.now c.strip-suffix.result c.strip-suffix.ensures.cases (lit< tt)) c.unwrap-or.ensures
+returns c = stripped_by 10 c.args.text c.unwrap_or.result c.strip_suffix.result (strip_suffix_char 10 c.args.text.now c.strip_suffix.result c.strip_suffix.ensures.cases (lit< tt)) c.unwrap_or.ensures

@@ -3,8 +3,8 @@ use Rattle.column.proofs.Cells.{cells_present, cells_null, cells_past}
 use Rattle.column.proofs.column.Column.cell.Goals as goal
 use Rattle.column.proofs.column.Column.cell.Goals.{else-row-values-via-then-row-values+else-is_marked, else-row-values-via-else-row-values}
 
-pub returns-then-is-marked : goal.returns-then-is-marked
-returns-then-is-marked g c = cells_present c.args.self.now.values.now c.args.self.now.marks.now c.args.row c.index-values-row.result c.index-values-row.is c.if-row-values.true (sym c.is-marked.ensures ∙ c.if-is-marked.true)
+pub returns-then-is_marked : goal.returns-then-is_marked
+returns-then-is_marked g c = cells_present c.args.self.now.values.now c.args.self.now.marks.now c.args.row c.index-values-row.result c.index-values-row.is c.if-row-values.true (sym c.is_marked.ensures ∙ c.if-is_marked.true)
 
 pub returns : goal.returns
 returns g c =

@@ -6,22 +6,22 @@ use Rattle.rank.specs.Ranks.{rank_graded}
 use Rattle.rank.specs.Whole.{covered, answered}
 use Rattle.rank.proofs.rank.RankEvaluator.evaluate_all.Goals as goal
 
-pub returns-in-err-check-whole : goal.returns-in-err-check-whole
-returns-in-err-check-whole g c =
+pub returns-in_err-check_whole : goal.returns-in_err-check_whole
+returns-in_err-check_whole g c =
     let o = g.row.O-Output in
-    let p = err_from_is_err_and c.from-residual.result c.from-residual.ensures.1 in
-    let e = refuses g.K.Kind.same false true (input c.args.rows.now) (o.size (o.slots c.args.out.now)) c.len.result c.in-err-check-whole.field-0.0 c.len.ensures c.in-err-check-whole.ensures.checked in
+    let p = err_from_is_err_and c.from_residual.result c.from_residual.ensures.1 in
+    let e = refuses g.K.Kind.same false true (input c.args.rows.now) (o.size (o.slots c.args.out.now)) c.len.result c.in_err-check_whole.field-0.0 c.len.ensures c.in_err-check_whole.ensures.checked in
     record { call = call-refused _ _ _ _ _ _ _ e (p.1 ∙ ap Err p.2); place = o.laws.refl _ }
 
-pub write-graded-requires : goal.write-graded-requires
-write-graded-requires g c =
-    let a = c.in-ok-check-whole.ensures.accepted refl in
+pub write_graded-requires : goal.write_graded-requires
+write_graded-requires g c =
+    let a = c.in_ok-check_whole.ensures.accepted refl in
     record { covers = covered g.K.Kind.same g.met.K.Kind.reflexive (input c.args.rows.now) c.len.result a; limited = a.limited; room = omega (arith, a.room, c.len.ensures) }
 
 pub returns : goal.returns
 returns g c =
     let o = g.row.O-Output in
     let x = input c.args.rows.now in
-    let a = c.in-ok-check-whole.ensures.accepted refl in
-    let e = accepts g.K.Kind.same false true x (o.size (o.slots c.args.out.now)) c.len.result c.in-ok-check-whole.field-0 c.len.ensures c.in-ok-check-whole.ensures.checked in
-    record { call = call-done _ _ _ _ _ _ e (c.write-graded.ensures.slots ∙ answered g.K.Kind.same g.met.K.Kind.reflexive x c.len.result a o.stored (rank_graded c.args.self.now.rank_type) (o.slots c.args.out.now)); place = c.write-graded.ensures.place }
+    let a = c.in_ok-check_whole.ensures.accepted refl in
+    let e = accepts g.K.Kind.same false true x (o.size (o.slots c.args.out.now)) c.len.result c.in_ok-check_whole.field-0 c.len.ensures c.in_ok-check_whole.ensures.checked in
+    record { call = call-done _ _ _ _ _ _ e (c.write_graded.ensures.slots ∙ answered g.K.Kind.same g.met.K.Kind.reflexive x c.len.result a o.stored (rank_graded c.args.self.now.rank_type) (o.slots c.args.out.now)); place = c.write_graded.ensures.place }
