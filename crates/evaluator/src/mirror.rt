@@ -13,7 +13,7 @@ pub trait MirrorEvaluator: Evaluator {
     ghost mirrored: { Self → Self };
 
     fn mirror(&self) -> Self
-        ensures { Mirror MirrorEvaluator.Value.Kind.same Self.Evaluator.frames Self.Evaluator.groups Self.Evaluator.meaning Self.Evaluator.renewed mirrored self.now result };
+        ensures { Mirror Self.Value.same Self.Evaluator.frames Self.Evaluator.groups Self.Evaluator.meaning Self.Evaluator.renewed mirrored self.now result };
 }
 
 // A mirror's mirror is the evaluator made fresh.
