@@ -13,7 +13,7 @@ use Rattle.lead_lag.proofs.WindowShiftEvaluator.evaluate_all.Goals as goal
 
 pub returns-in_err-check_whole : goal.returns-in_err-check_whole
 returns-in_err-check_whole g c =
-    let o = g.row.O-Output in
+    let o = g.O.Output in
     let p = err_from_is_err_and c.from_residual.result c.from_residual.ensures.1 in
     let e = refuses g.K.Kind.same false false (input c.args.rows.now) (o.size (o.slots c.args.out.now)) c.len.result c.in_err-check_whole.field-0.0 c.len.ensures c.in_err-check_whole.ensures.checked in
     record { call = call-refused _ _ _ _ _ _ _ e (p.1 ∙ ap Err p.2); place = o.laws.refl _ }
@@ -25,7 +25,7 @@ write_all-requires g c =
 
 pub returns : goal.returns
 returns g c =
-    let o = g.row.O-Output in
+    let o = g.O.Output in
     let x = input c.args.rows.now in
     let e = accepts g.K.Kind.same false false x (o.size (o.slots c.args.out.now)) c.len.result c.in_ok-check_whole.field-0 c.len.ensures c.in_ok-check_whole.ensures.checked in
     let f : SFits w64 c.args.self.now.shift_offset = search rules in

@@ -9,5 +9,5 @@ use Rattle.lead_lag.proofs.whole.write_ahead.Given as goal
 
 abbrev pub invariant-loop-i : goal.invariant-loop-i
 invariant-loop-i g l =
-    let o = g.row.O-Output in
+    let o = g.O.Output in
     Written o.slots o.stored o.size o.place (shifted (Ahead l.m) true l.default (column_cells l.column)) l.n l.i l.initial.out l.out × (l.source ≡ slice_get (ahead (view l.window) (l.i + 1) (l.n - (l.i + 1))) (l.m - 1))

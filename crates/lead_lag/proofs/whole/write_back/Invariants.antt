@@ -7,5 +7,5 @@ use Rattle.lead_lag.proofs.whole.write_back.Given as goal
 
 abbrev pub invariant-loop-i : goal.invariant-loop-i
 invariant-loop-i g l =
-    let o = g.row.O-Output in
+    let o = g.O.Output in
     Written o.slots o.stored o.size o.place (shifted (Back l.m) true l.default (column_cells l.column)) l.i-end l.i l.initial.out l.out × Holding (Back l.m) true l.held (column_cells l.column) l.i

@@ -6,5 +6,5 @@ use Rattle.lead_lag.proofs.whole.write_off.Given as goal
 
 abbrev pub invariant-loop-i : goal.invariant-loop-i
 invariant-loop-i g l =
-    let o = g.row.O-Output in
+    let o = g.O.Output in
     Written o.slots o.stored o.size o.place (shifted l.way false l.default (column_cells l.column)) l.n l.i l.initial.out l.out

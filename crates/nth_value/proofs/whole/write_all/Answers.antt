@@ -13,7 +13,7 @@ use Rattle.nth_value.proofs.whole.write_all.Goals as goal
 
 pub loop-i-init : goal.loop-i-init
 loop-i-init g c =
-    let o = g.row.O-Output in
+    let o = g.O.Output in
     let col = c.args.column.now in
     let long = length-cells col.values.now col.marks.now c.requires.lengths in
     let k = c.cursor_of-cursor.ensures (column_cells col) (view-all col) (sym long) in
@@ -24,7 +24,7 @@ put-requires g c = omega (arith, c.loop-i.invariant.0.room, c.requires.framed, c
 
 pub loop-i-preserved : goal.loop-i-preserved
 loop-i-preserved g c =
-    let o = g.row.O-Output in
+    let o = g.O.Output in
     let col = c.args.column.now in
     let rows = column_cells col in
     let long = length-cells col.values.now col.marks.now c.requires.lengths in
@@ -37,7 +37,7 @@ loop-i-preserved g c =
 
 pub returns : goal.returns
 returns g c =
-    let o = g.row.O-Output in
+    let o = g.O.Output in
     let col = c.args.column.now in
     let rows = column_cells col in
     let long = length-cells col.values.now col.marks.now c.requires.lengths in

@@ -9,7 +9,7 @@ use Rattle.nth_value.proofs.whole.write_all.Given as goal
 -- the cursor knows what it has to, and finds what the first one finds
 abbrev pub invariant-loop-i : goal.invariant-loop-i
 invariant-loop-i g l =
-    let o = g.row.O-Output in
+    let o = g.O.Output in
     let rows = column_cells l.column in
     Written o.slots o.stored o.size o.place (λ i. cell_of (at rows) (finds l.initial.cursor rows (get_or l.frames i (0, 0)))) l.n l.i l.initial.out l.out
     × Knows rows l.cursor

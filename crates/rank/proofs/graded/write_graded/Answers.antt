@@ -6,7 +6,7 @@ use Rattle.rank.proofs.graded.write_graded.Goals as goal
 
 pub loop-number-init : goal.loop-number-init
 loop-number-init g c =
-    let o = g.row.O-Output in
+    let o = g.O.Output in
     let f = graded_by (g.G.Graded.graded c.args.function.now) c.args.groups.now c.args.rows in
     subst (λ (i : ℕ). Written o.slots o.stored o.size o.place f c.args.rows i c.args.out.now c.args.out.now) (sym (starts c.args.groups.now 0 c.args.rows c.requires.covers)) (none_written o.slots o.stored o.size o.place o.laws f c.args.rows c.args.out.now c.requires.room)
 
@@ -15,7 +15,7 @@ grade-grade-requires g c = within c.args.groups.now c.args.rows c.loop-number.nu
 
 pub put-requires : goal.put-requires
 put-requires g c =
-    let o = g.row.O-Output in
+    let o = g.O.Output in
     let f = graded_by (g.G.Graded.graded c.args.function.now) c.args.groups.now c.args.rows in
     let p = placed c.args.groups.now 0 c.args.rows c.loop-number.number c.requires.covers (omega arith) in
     let s = subst (λ (i : ℕ). Written o.slots o.stored o.size o.place f c.args.rows i c.args.out.now c.loop-number.out) (sym p.begins) c.loop-number.invariant in
@@ -23,7 +23,7 @@ put-requires g c =
 
 pub loop-row-preserved : goal.loop-row-preserved
 loop-row-preserved g c before w =
-    let o = g.row.O-Output in
+    let o = g.O.Output in
     let grade = g.G.Graded.graded c.args.function.now in
     let gs = c.args.groups.now in
     let p = placed gs 0 c.args.rows c.loop-number.number c.requires.covers (omega arith) in
@@ -32,7 +32,7 @@ loop-row-preserved g c before w =
 
 pub loop-number-preserved : goal.loop-number-preserved
 loop-number-preserved g c =
-    let o = g.row.O-Output in
+    let o = g.O.Output in
     let gs = c.args.groups.now in
     let f = graded_by (g.G.Graded.graded c.args.function.now) gs c.args.rows in
     let p = placed gs 0 c.args.rows c.loop-number.number c.requires.covers (omega arith) in
@@ -42,7 +42,7 @@ loop-number-preserved g c =
 
 pub returns : goal.returns
 returns g c =
-    let o = g.row.O-Output in
+    let o = g.O.Output in
     let gs = c.args.groups.now in
     let f = graded_by (g.G.Graded.graded c.args.function.now) gs c.args.rows in
     let k : c.loop-number.number ≡ length gs = omega arith in

@@ -4,5 +4,5 @@ use Rattle.rank.proofs.row_number.write_numbers.Given as goal
 
 abbrev pub invariant-loop-row : goal.invariant-loop-row
 invariant-loop-row g l =
-    let o = g.row.O-Output in
+    let o = g.O.Output in
     Written o.slots o.stored o.size o.place (λ i. i + 1) l.rows l.row l.initial.out l.out
