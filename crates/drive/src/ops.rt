@@ -1,5 +1,5 @@
 // The operations of a run as a line has them.
-use lines::column::{Lists, read_column};
+use lines::columns::{Lists, read_column};
 use lines::cursor::Cursor;
 use lines::stop::{Bad, Stop};
 use lines::text::{Text, Value};

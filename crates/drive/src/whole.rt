@@ -8,7 +8,7 @@ use column::fault::Fault;
 use column::kind::Kind;
 use evaluator::cells::evaluate_cells;
 use lead_lag::WindowShift;
-use lines::column::{Lists, read_column, read_spans};
+use lines::columns::{Lists, read_column, read_spans};
 use lines::cursor::Cursor;
 use lines::list::show_list;
 use lines::stop::{Bad, Stop};

@@ -1,7 +1,7 @@
 #![tactic(auto)]
 
 // Lines of text that stand for calls: their words read, and values shown.
-pub mod column;
+pub mod columns;
 pub mod cursor;
 pub mod kinds;
 pub mod list;
