@@ -12,7 +12,7 @@ use Rattle.evaluator.specs.Meaning.{Partition, partition}
 use Rattle.lead_lag.specs.declared.WindowShift.{WindowShift}
 use Rattle.lead_lag.specs.declared.offset.WindowShiftKind.TheVariants.{Lag}
 use Rattle.lead_lag.specs.Offset.{way_of}
-use Rattle.lead_lag.specs.Present.{at, before}
+use Rattle.present.specs.Present.{at, before}
 use Rattle.lead_lag.specs.Shift.{taken, shifted, shift_meaning, making}
 use Rattle.sessions.specs.Sessions.{Cell, later, last_present, last_before, Split, Answered}
 use Rattle.sessions.proofs.Present.{last_push}

@@ -1,12 +1,9 @@
 -- The number of a name, and the numbers of the records. Assumes nothing.
 use Rattle.std.proofs.Common.{◌≡◌, ℕ, ◌+◌, ◌<◌, Bool, true, false, cond, List, [], ◌∷◌, ◌++◌, map, length, get_or, is_some, Some, None, Ok, string_bytes, Option, String, sym, refl, ap, ◌∙◌, subst, ⊎_elim, arith}
 use Rattle.std.specs.BTreeMap.{BTreeMap}
-use Rattle.std.specs.BTreeMap.{keys, values, get_by_text, btree_map_len, UpdatesText, Inserts}
-use Rattle.std.proofs.StringKeys.BTreeMap.{Bytes, as-text, put as text-put}
-use Rattle.std.specs.Map.{lookup}
+use Rattle.std.specs.BTreeMap.{get_by_text, btree_map_len, IsOrdered}
 use Rattle.std.specs.Str.{bytes_eq as same_text}
 use Rattle.std.specs.Cmp.Lexicographic.{bytes_decides}
-use Rattle.std.proofs.SortedKeys.{sorted_none}
 use Rattle.std.proofs.lemmas.List.{get_or_push, get_or_append_left, length_push, get_or-map}
 use Rattle.std.proofs.lemmas.Bool.{cases_eq}
 use Rattle.sessions.specs.declared.record.Record.{Record}
@@ -15,46 +12,33 @@ use Rattle.sessions.specs.Sessions.{session, session_at, Numbered}
 use Rattle.std.specs.String.{string_cmp}
 
 module _ {Y : Type 0} where
-  pub no_names : (m : BTreeMap (String Y) ℕ) → keys m ≡ [] → values m ≡ [] → Names m
-  no_names m ks vs = record {
-    ordered = (ap length vs ∙ sym (ap length ks), sorted_none _ ks string_cmp);
-    below = λ v n e. absurd (never v n (sym (blank v) ∙ e));
-    own = λ v w n e f. absurd (never v n (sym (blank v) ∙ e));
-  }
-    where
-      blank : (v : List ℕ) → get_by_text m v ≡ None
-      blank v = ap (λ l. lookup same_text (map string_bytes l) (values m) v) ks
-
-      never : (v : List ℕ) (n : ℕ) → ◌≡◌ {A = Option ℕ} None (Some n) → ⊥
-      never v n e = let z : ◌≡◌ {A = ℕ} 0 1 = cc in omega arith
-
   pub named_old : (m : BTreeMap (String Y) ℕ) (name : List ℕ) (n : ℕ) → Names m → get_by_text m name ≡ Some n → Named m m name n
   named_old m name n old e = record { names = old; here = e; stays = λ v k h. h }
 
-  module _ (m : BTreeMap (String Y) ℕ) (w : BTreeMap (String Y) ℕ) (name : List ℕ) (old : Names m) (free : get_by_text m name ≡ None) (long : btree_map_len w ≡ btree_map_len m + 1) (sets : UpdatesText m w name (Some (btree_map_len m))) where
+  module _ (m : BTreeMap (String Y) ℕ) (w : BTreeMap (String Y) ℕ) (name : List ℕ) (old : Names m) (free : get_by_text m name ≡ None) (long : btree_map_len w ≡ btree_map_len m + 1) (sorted : IsOrdered string_cmp w) (sets : (v : List ℕ) → get_by_text w v ≡ cond (same_text name v) (Some (btree_map_len m)) (get_by_text m v)) where
     -- what w holds of a name: the new number, or what m holds
-    here_or : (v : List ℕ) (n : ℕ) (b : Bool) → same_text v name ≡ b → get_by_text w v ≡ Some n → cond b (Some (btree_map_len m)) (get_by_text m v) ≡ Some n
-    here_or v n b e h = ap (λ t. cond t (Some (btree_map_len m)) (get_by_text m v)) (sym e) ∙ sym (sets.1 v) ∙ h
+    here_or : (v : List ℕ) (n : ℕ) (b : Bool) → same_text name v ≡ b → get_by_text w v ≡ Some n → cond b (Some (btree_map_len m)) (get_by_text m v) ≡ Some n
+    here_or v n b e h = ap (λ t. cond t (Some (btree_map_len m)) (get_by_text m v)) (sym e) ∙ sym (sets v) ∙ h
 
-    lower : (v : List ℕ) (n : ℕ) (b : Bool) → same_text v name ≡ b → get_by_text w v ≡ Some n → n < btree_map_len w
+    lower : (v : List ℕ) (n : ℕ) (b : Bool) → same_text name v ≡ b → get_by_text w v ≡ Some n → n < btree_map_len w
     lower v n true e h = let k = here_or v n true e h in let q : btree_map_len m ≡ n = cc in omega arith
     lower v n false e h = omega (arith, old.below v n (here_or v n false e h))
 
-    apart : (v u : List ℕ) (n : ℕ) (a b : Bool) → same_text v name ≡ a → same_text u name ≡ b → get_by_text w v ≡ Some n → get_by_text w u ≡ Some n → v ≡ u
-    apart v u n true true e f h k = (bytes_decides v name).0 e ∙ sym ((bytes_decides u name).0 f)
+    apart : (v u : List ℕ) (n : ℕ) (a b : Bool) → same_text name v ≡ a → same_text name u ≡ b → get_by_text w v ≡ Some n → get_by_text w u ≡ Some n → v ≡ u
+    apart v u n true true e f h k = sym ((bytes_decides name v).0 e) ∙ (bytes_decides name u).0 f
     apart v u n true false e f h k = let q = here_or v n true e h in let p : btree_map_len m ≡ n = cc in absurd (omega (arith, old.below u n (here_or u n false f k)))
     apart v u n false true e f h k = let q = here_or u n true f k in let p : btree_map_len m ≡ n = cc in absurd (omega (arith, old.below v n (here_or v n false e h)))
     apart v u n false false e f h k = old.own v u n (here_or v n false e h) (here_or u n false f k)
 
-    keeps : (v : List ℕ) (k : ℕ) (b : Bool) → same_text v name ≡ b → get_by_text m v ≡ Some k → get_by_text w v ≡ Some k
-    keeps v k true e h = let q : get_by_text m v ≡ None = ap (get_by_text m) ((bytes_decides v name).0 e) ∙ free in let z : ◌≡◌ {A = ℕ} 0 1 = cc in absurd (omega arith)
-    keeps v k false e h = sets.1 v ∙ ap (λ t. cond t (Some (btree_map_len m)) (get_by_text m v)) e ∙ h
+    keeps : (v : List ℕ) (k : ℕ) (b : Bool) → same_text name v ≡ b → get_by_text m v ≡ Some k → get_by_text w v ≡ Some k
+    keeps v k true e h = let q : get_by_text m v ≡ None = ap (get_by_text m) (sym ((bytes_decides name v).0 e)) ∙ free in let z : ◌≡◌ {A = ℕ} 0 1 = cc in absurd (omega arith)
+    keeps v k false e h = sets v ∙ ap (λ t. cond t (Some (btree_map_len m)) (get_by_text m v)) e ∙ h
 
     pub named_new : Named m w name (btree_map_len m)
     named_new = record {
-      names = record { ordered = sets.0; below = λ v n h. lower v n (same_text v name) refl h; own = λ v u n h k. apart v u n (same_text v name) (same_text u name) refl refl h k };
-      here = sets.1 name ∙ ap (λ t. cond t (Some (btree_map_len m)) (get_by_text m name)) ((bytes_decides name name).1 refl);
-      stays = λ v k h. keeps v k (same_text v name) refl h;
+      names = record { ordered = sorted; below = λ v n h. lower v n (same_text name v) refl h; own = λ v u n h k. apart v u n (same_text name v) (same_text name u) refl refl h k };
+      here = sets name ∙ ap (λ t. cond t (Some (btree_map_len m)) (get_by_text m name)) ((bytes_decides name name).1 refl);
+      stays = λ v k h. keeps v k (same_text name v) refl h;
     }
 
   -- the first i records have the numbers of their names
@@ -89,11 +73,3 @@ module _ {Y : Type 0} where
     where
       same : (i j : ℕ) → i < length rows → j < length rows → session_at rows i ≡ session_at rows j → get_or ns i 0 ≡ get_or ns j 0
       same i j h k e = let q : ◌≡◌ {A = Option ℕ} (Some (get_or ns i 0)) (Some (get_or ns j 0)) = sym (t.told i h) ∙ ap (get_by_text m) e ∙ t.told j k in cc
-
--- what an `insert` of a new name leaves
-pub grown : {Y : Type 0} (m w : BTreeMap (String Y) ℕ) (k : String Y) (name : List ℕ) (n : ℕ) (before : Option ℕ) → Names m → get_by_text m name ≡ None → string_bytes k ≡ name → n ≡ btree_map_len m → Inserts Bytes m w k n (Ok before) → Named m w name n
-grown m w k name n before old free e long put =
-    let was : before ≡ None = put.2 old.ordered ∙ as-text m k ∙ ap (get_by_text m) e ∙ free in
-    let more : btree_map_len w ≡ btree_map_len m + 1 = put.0 ∙ ap (λ o. btree_map_len m + cond (is_some o) 0 1) was in
-    let sets : UpdatesText m w name (Some (btree_map_len m)) = subst (λ v. UpdatesText m w v (Some (btree_map_len m))) e (subst (λ (a : ℕ). UpdatesText m w (string_bytes k) (Some a)) long (text-put m w k (Some n) put.3 old.ordered)) in
-    subst (Named m w name) (sym long) (named_new m w name old free more sets)

@@ -10,7 +10,7 @@ offset_bounds-answers-number c =
 pub bounds-answers-number : goal.bounds-answers-number
 bounds-answers-number c = list_within c.args.numbers.now c.args.places.now c.args.answers.now c.loop-i.i c.requires c.loop-i-test.true
 
-within : (c : goal.After-shared-slice-known-in-loop-i·1) → get_or c.args.places.now c.loop-i.i 0 < length c.as_slice-session.result.now
+within : (c : goal.After-shared_slice_known-in-loop-i-1) → get_or c.args.places.now c.loop-i.i 0 < length c.as_slice-session.result.now
 within c = subst (λ l. get_or c.args.places.now c.loop-i.i 0 < length l) (sym c.as_slice-session.ensures.value) (place-within c.args.numbers.now c.args.places.now c.args.answers.now c.loop-i.i c.index-answers-number.result c.requires c.loop-i-test.true c.index-answers-number.is)
 
 pub offset_bounds-session-places : goal.offset_bounds-session-places

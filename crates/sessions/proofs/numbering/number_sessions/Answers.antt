@@ -12,4 +12,4 @@ returns c =
     let numbers = vec_items c.loop-record.numbers in
     let over : c.loop-record.record-index ≡ length rows = omega arith in
     let told = subst (λ (i : ℕ). Told rows c.loop-record.known i numbers) over c.loop-record.invariant in
-    subst (Numbered rows numbers) (sym c.len-count.ensures) (numbered rows c.loop-record.known numbers told)
+    subst (Numbered rows numbers) (sym c.len-count.ensures.len) (numbered rows c.loop-record.known numbers told)

@@ -10,7 +10,7 @@ loop-i-init c = none_read _ _ _ c.new-records.ensures.items
 pub loop-i-preserved : goal.loop-i-preserved
 loop-i-preserved c =
     let lt : c.loop-i.i < length (vec_items c.in_ok-lines.lines) = search rules in
-    one_read _ (vec_items c.in_ok-lines.lines) c.loop-i.i _ _ _ c.index-in-loop-i.result.now _ _ _ c.loop-i.invariant lt c.index-in-loop-i.ensures c.without_return-line.ensures c.as_slice.ensures.value c.in_ok-fields.ensures.whole c.in_ok-fields.ensures.apart c.in-Ok.ensures c.in_ok-push.ensures.items
+    one_read _ (vec_items c.in_ok-lines.lines) c.loop-i.i _ _ _ c.index-in-loop-i.result.now _ _ _ c.loop-i.invariant lt c.index-in-loop-i.ensures c.without_return-line.ensures c.as_slice.ensures.value c.in_ok-fields.ensures.whole c.in_ok-fields.ensures.apart c.in-Ok.ensures c.in_ok-push-in-Ok.ensures.items
 
 pub returns : goal.returns
 returns c =
