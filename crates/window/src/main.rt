@@ -1,8 +1,8 @@
 #![tactic(auto)]
 
 // The desk's program: `window [FILE]` writes the report of FILE, or of standard input.
-use anyhow::anyhow;
 use sessions::report::report;
+use std::process::ExitCode;
 use std::{env, fs, io};
 
 const INPUT: &str = "-";
@@ -15,32 +15,32 @@ fn text_of(rt: &HostRuntime, name: &str) -> io::Result<String> {
     }
 }
 
-fn run(rt: &HostRuntime, name: &str) -> anyhow::Result<()> {
+fn run(rt: &HostRuntime, name: &str) -> io::Result<ExitCode> {
     let text = match text_of(rt, name) {
         Ok(text) => text,
         Err(e) => {
             eprintln!(rt; "{name}: {e}")?;
-            return Err(anyhow!("not read"));
+            return Ok(ExitCode::FAILURE);
         }
     };
     match report(rt.alloc(), text.as_str()) {
         Ok(written) => {
             print!(rt; "{written}")?;
-            Ok(())
+            Ok(ExitCode::SUCCESS)
         }
         Err(refusal) => {
             eprintln!(rt; "{name}:{refusal}")?;
-            Err(anyhow!("refused"))
+            Ok(ExitCode::FAILURE)
         }
     }
 }
 
-fn main(rt: HostRuntime) -> anyhow::Result<()> {
+fn main(rt: HostRuntime) -> io::Result<ExitCode> {
     let mut args = env::args(&rt)?.skip(1);
     let first = args.next();
     if args.next().is_some() {
         eprintln!(rt; "usage: window [FILE]")?;
-        return Err(anyhow!("usage"));
+        return Ok(ExitCode::FAILURE);
     }
     match first {
         Some(name) => run(&rt, name.as_str()),
