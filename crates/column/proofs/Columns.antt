@@ -1,7 +1,6 @@
 -- What a column that passed its checks has.
-use Rattle.std.proofs.Common.{◌≡◌, ℕ, ◌<◌, ◌≤◌, Some, None, Ok, Err, Option, Result, arith}
+use Rattle.std.proofs.Common.{◌≡◌, ℕ, ◌≤◌, None, Ok, arith}
 use Rattle.std.proofs.lemmas.Bool.Decides.{nat_tests}
-use Rattle.column.specs.declared.fault.Fault.{Fault}
 use Rattle.column.specs.Refusal.{passes, column_refusal, row_limit}
 use Rattle.column.proofs.Exits.{passed}
 

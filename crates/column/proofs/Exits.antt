@@ -1,7 +1,7 @@
 -- What a refusal in a chain of checks comes to.
-use Rattle.std.proofs.Common.{◌≡◌, Some, None, Ok, Err, Option, Result, sym, refl, ap, ◌∙◌}
+use Rattle.std.proofs.Common.{◌≡◌, Some, None, Ok, Err, Option, refl, ap}
 use Rattle.column.specs.declared.fault.Fault.{Fault}
-use Rattle.column.specs.Refusal.{passes, yields, or_else}
+use Rattle.column.specs.Refusal.{passes, or_else}
 
 pub refused : (r : Option Fault) (f : Fault) → Err f ≡ passes r → r ≡ Some f
 refused None f e = cc

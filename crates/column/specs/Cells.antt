@@ -1,5 +1,5 @@
 -- The cells of a column, and when two are the same.
-use Rattle.std.specs.Prelude.{ℕ, ◌+◌, ◌-◌, Bool, true, false, cond, List, [], ◌∷◌, length, Some, None, Option, nat_lt, slice_index_or}
+use Rattle.std.specs.Prelude.{ℕ, ◌-◌, Bool, true, false, cond, List, [], ◌∷◌, Some, None, Option, nat_lt, slice_index_or}
 use Rattle.column.specs.declared.column.Column.{Column}
 use Rattle.column.specs.declared.column.Window.{Window}
 

@@ -1,5 +1,5 @@
 -- What a refusal does to a call, and the checks of every column.
-use Rattle.std.specs.Prelude.{ℕ, min, Bool, cond, not, Some, None, Ok, Err, Option, Result, ◌==◌, nat_lt}
+use Rattle.std.specs.Prelude.{ℕ, min, cond, not, Some, None, Ok, Err, Option, Result, ◌==◌, nat_lt}
 use Rattle.column.specs.declared.fault.Fault.{Fault}
 use Rattle.column.specs.declared.fault.Fault.TheVariants.{Lengths, RowLimit}
 

@@ -1,5 +1,5 @@
 -- What a call on a whole partition must not touch.
-use Rattle.std.specs.Prelude.{ℕ, ◌<◌, ◌≤◌, Bool, false, ◌&&◌, ◌||◌, T, List, length, nat_lt, slice_index_or}
+use Rattle.std.specs.Prelude.{ℕ, ◌<◌, ◌≤◌, Bool, false, ◌&&◌, ◌||◌, T, List, nat_lt, slice_index_or}
 
 -- a call with so many answers may write the value of row i: the row is answered, and not by NULL
 abbrev pub writable : List Bool → ℕ → ℕ → Bool

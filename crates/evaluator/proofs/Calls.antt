@@ -1,8 +1,8 @@
 -- The two ways that a call on a whole partition ends.
-use Rattle.std.proofs.Common.{◌≡◌, ℕ, ◌≤◌, Bool, Some, None, Ok, Err, Option, Result, sym, refl, ap, ◌∙◌, subst}
+use Rattle.std.proofs.Common.{◌≡◌, ℕ, Bool, Some, None, Ok, Err, Option, Result, sym, ap, ◌∙◌, subst}
 use Rattle.column.specs.declared.fault.Fault.{Fault}
 use Rattle.column.specs.Refusal.{passes, kept_or}
-use Rattle.partition.specs.Table.{Input, row_count, whole_refusal, Accepted}
+use Rattle.partition.specs.Table.{Input, row_count, whole_refusal}
 use Rattle.column.specs.Slots.{CellSlots, Filled, written, put_cell, cell_count}
 use Rattle.column.proofs.Exits.{refused, passed}
 use Rattle.partition.proofs.Accepted.{whole_says}

@@ -1,14 +1,14 @@
 -- What is accepted is accepted turned.
-use Rattle.std.proofs.Common.{◌≡◌, ℕ, zero, suc, ◌+◌, ◌-◌, ◌<◌, ◌≤◌, Bool, true, false, cond, not, ◌&&◌, ◌||◌, eqb, ltb, List, [], ◌∷◌, map, reverse, length, get_or, Some, None, Option, sym, refl, ap, ◌∙◌, subst, ⊎_elim, arith}
+use Rattle.std.proofs.Common.{◌≡◌, ℕ, ◌-◌, ◌<◌, ◌≤◌, Bool, true, false, cond, ◌&&◌, ◌||◌, ltb, List, [], ◌∷◌, map, reverse, length, get_or, Some, None, Option, sym, refl, ap, ◌∙◌, subst, ⊎_elim, arith}
 use mathlib.Core.List.{reverse_aux}
 use Rattle.std.proofs.lemmas.List.{length-map, length-reverse, get_or-map, get_or-reverse}
-use Rattle.std.proofs.lemmas.Bool.{cases_lt, le-ltb, or_parts, or_from, ltb-false, eq-eqb, cond-true, cond-false}
+use Rattle.std.proofs.lemmas.Bool.{cases_lt, le-ltb}
 use Rattle.std.proofs.lemmas.Bool.Decides.{nat_tests}
 use Rattle.column.specs.declared.fault.Fault.{Fault}
 use Rattle.column.specs.declared.fault.Fault.TheVariants.{Absent}
 use Rattle.column.specs.Cells.{cells}
 use Rattle.partition.specs.Peers.{Group, peers}
-use Rattle.column.specs.Refusal.{row_limit, or_else, column_refusal}
+use Rattle.column.specs.Refusal.{row_limit, column_refusal}
 use Rattle.partition.specs.Table.{Frame, Input, row_count, absent, unfit, differ, frames_fault, groups_fault, unless_absent, frames_refusal, groups_refusal, absent_refusal, output_refusal, whole_refusal}
 use Rattle.evaluator.specs.Mirror.{turned, turned_frame, turned_groups}
 use Rattle.column.proofs.Cells.{length-cells}

@@ -1,5 +1,5 @@
 -- Turning a partition, and what a mirror of an evaluator is.
-use Rattle.std.specs.Prelude.{◌≡◌, ℕ, ◌-◌, ◌<◌, Bool, List, [], ◌∷◌, map, reverse, length, Some, None, Ok, Option, Result}
+use Rattle.std.specs.Prelude.{◌≡◌, ℕ, ◌-◌, ◌<◌, Bool, List, [], ◌∷◌, map, reverse, None, Ok, Option, Result}
 use Rattle.column.specs.declared.fault.Fault.{Fault}
 use Rattle.column.specs.Cells.{cells}
 use Rattle.column.specs.Slots.{written}

@@ -1,30 +1,28 @@
 -- A row call of a shift: what its window shows, and what it then gives.
-use Rattle.std.proofs.Common.{◌≡◌, ℕ, zero, suc, ◌+◌, ◌-◌, ◌<◌, ◌≤◌, min, Bool, true, false, cond, not, ◌&&◌, ◌||◌, T, ltb, leb, ◌⊎◌, List, [], ◌∷◌, length, get_or, take, is_some, Some, None, Ok, Err, Option, Result, sym, refl, ap, ◌∙◌, subst, inl, inr, ⊎_elim, arith}
+use Rattle.std.proofs.Common.{◌≡◌, ℕ, ◌+◌, ◌-◌, ◌<◌, ◌≤◌, Bool, true, false, cond, not, ◌&&◌, ◌||◌, T, ltb, leb, List, length, take, Some, None, Ok, Err, Option, Result, sym, refl, ap, ◌∙◌, subst, ⊎_elim, arith}
 use Rattle.std.specs.List.{slice_get}
 use Rattle.std.proofs.lemmas.List.{take_all}
-use Rattle.std.proofs.lemmas.Option.{slice_get_past}
 use Rattle.std.proofs.lemmas.Bool.Decides.{nat_tests}
-use Rattle.std.proofs.lemmas.Bool.{cases_Bool, cases_lt, cond-true, cond-false, lt-ltb, le-ltb, ltb-true, leb-true}
+use Rattle.std.proofs.lemmas.Bool.{cases_Bool, cond-false, le-ltb, ltb-true}
 use Rattle.column.specs.declared.fault.Fault.{Fault}
 use Rattle.column.specs.declared.fault.Fault.TheVariants.{TooEarly}
 use Rattle.column.specs.declared.column.Window.{Window}
 use Rattle.column.specs.Cells.{view}
 use Rattle.partition.specs.Table.{Frame}
-use Rattle.run.specs.Shown.{shown, end_of}
-use Rattle.evaluator.specs.Meaning.{Partition, Meaning, Alike, settles}
-use Rattle.run.specs.Rows.{Handed, Asks, Given, RowCall, left_by}
+use Rattle.run.specs.Shown.{end_of}
+use Rattle.evaluator.specs.Meaning.{Partition, Alike, settles}
+use Rattle.run.specs.Rows.{Handed, Asks, RowCall, left_by}
 use Rattle.evaluator.proofs.Settles.{settled_no, settled_yes}
-use Rattle.run.proofs.Seen.{seen_rows, seen_within, seen_view, given_ok, given_early}
+use Rattle.run.proofs.Seen.{seen_rows, seen_view, given_ok, given_early}
 use Rattle.present.specs.declared.held.Held.{Held}
 use Rattle.lead_lag.specs.declared.WindowShift.{WindowShift}
 use Rattle.lead_lag.specs.declared.offset.Way.{Way}
 use Rattle.lead_lag.specs.declared.offset.Way.TheVariants.{Own, Back, Ahead}
-use Rattle.present.specs.Present.{at, before, ahead, after}
+use Rattle.present.specs.Present.{at, ahead}
 use Rattle.lead_lag.specs.Offset.{way_of}
-use Rattle.lead_lag.specs.Shift.{Proper, source_row, taken, shifted, reaches, shift_settled, mark_of, Holding, shift_meaning}
-use Rattle.present.specs.Counting.{oldest_source}
+use Rattle.lead_lag.specs.Shift.{Proper, source_row, taken, shifted, reaches, mark_of, Holding, shift_meaning}
 use Rattle.lead_lag.specs.Steps.{source_by, waits, held_after, shift_stepped}
-use Rattle.present.proofs.Counts.{number_of, some_same}
+use Rattle.present.proofs.Counts.{some_same}
 use Rattle.present.proofs.Ahead.{ahead-number, ahead-same, before_same}
 use Rattle.present.proofs.Counting.{counted-source}
 use Rattle.lead_lag.specs.Holds.{way_proper, holds_after, mark_below, mark_rises}

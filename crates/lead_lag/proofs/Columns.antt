@@ -1,5 +1,5 @@
 -- A column as the window that shows all of it.
-use Rattle.std.proofs.Common.{◌≡◌, ℕ, ◌+◌, ◌-◌, ◌<◌, ◌≤◌, Bool, true, false, cond, List, length, get_or, Some, None, Option, sym, refl, ap, ◌∙◌, arith}
+use Rattle.std.proofs.Common.{◌≡◌, ℕ, ◌+◌, ◌-◌, ◌<◌, true, false, List, length, Some, None, Option, refl, ap, ◌∙◌}
 use Rattle.std.specs.List.{slice_get}
 use Rattle.column.specs.declared.column.Column.{Column}
 use Rattle.column.specs.declared.column.Window.{Window}
@@ -8,7 +8,7 @@ use Rattle.column.proofs.Cells.{view-all}
 use Rattle.present.specs.declared.held.Held.{Held}
 use Rattle.lead_lag.specs.declared.offset.Way.{Way}
 use Rattle.lead_lag.specs.declared.offset.Way.TheVariants.{Back, Ahead}
-use Rattle.present.specs.Present.{at, ahead, after}
+use Rattle.present.specs.Present.{at, ahead}
 use Rattle.lead_lag.specs.Shift.{row_off, taken, shifted, Holding}
 use Rattle.present.specs.Counting.{counted_row, oldest_source}
 use Rattle.present.proofs.Ahead.{ahead-same}

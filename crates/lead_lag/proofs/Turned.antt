@@ -1,10 +1,10 @@
 -- The opposite offset on turned rows.
-use Rattle.std.proofs.Common.{◌≡◌, ℕ, zero, suc, ◌+◌, ◌-◌, ◌<◌, ◌≤◌, Bool, true, false, cond, ltb, leb, ◌⊎◌, List, [], ◌∷◌, map, reverse, length, get_or, ℤ, pos, negsuc, neg_ℤ, is_some, Some, None, Option, sym, refl, ap, ◌∙◌, subst, inl, inr, ⊎_elim, arith, w64, SFits}
+use Rattle.std.proofs.Common.{◌≡◌, ℕ, zero, suc, ◌+◌, ◌-◌, ◌<◌, ◌≤◌, Bool, true, false, cond, ltb, leb, List, [], ◌∷◌, map, reverse, length, get_or, ℤ, pos, negsuc, neg_ℤ, is_some, Some, None, Option, sym, refl, ap, ◌∙◌, ⊎_elim, arith, w64, SFits}
 use Rattle.std.specs.Option.{option_map}
 use Rattle.std.specs.List.{slice_get}
 use Rattle.std.proofs.lemmas.List.{get_or-reverse, length-reverse, reverse-reverse}
 use Rattle.std.proofs.lemmas.Option.{slice_get_past}
-use Rattle.std.proofs.lemmas.Bool.{cond-true, cond-false, cases_lt, cases_eq, ltb-true, lt-ltb, le-ltb, le-leb, lt-leb}
+use Rattle.std.proofs.lemmas.Bool.{cond-true, cond-false, cases_lt, lt-ltb, le-ltb, le-leb, lt-leb}
 use Rattle.lead_lag.specs.declared.offset.Way.{Way}
 use Rattle.lead_lag.specs.declared.offset.Way.TheVariants.{Own, Back, Ahead}
 use Rattle.evaluator.specs.Arguments.{opposite}
@@ -12,9 +12,8 @@ use Rattle.evaluator.proofs.Opposites.{opposite_is}
 use Rattle.lead_lag.specs.Offset.{way_of}
 use Rattle.present.specs.Present.{at, before, ahead, after}
 use Rattle.lead_lag.specs.Shift.{Proper, row_off, present_off, source_row, taken, shifted}
-use Rattle.present.proofs.Counts.{number_of, some_same}
-use Rattle.present.proofs.Ahead.{ahead-number, ahead-count}
-use Rattle.lead_lag.specs.Fronts.{Front, source_below}
+use Rattle.present.proofs.Counts.{number_of}
+use Rattle.lead_lag.specs.Fronts.{source_below}
 use Rattle.lead_lag.specs.Holds.{way_proper}
 
 -- the row that row r of n becomes

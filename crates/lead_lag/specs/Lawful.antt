@@ -1,9 +1,9 @@
 -- The four laws of a shift.
-use Rattle.std.specs.Prelude.{◌≡◌, ℕ, ◌+◌, ◌<◌, ◌≤◌, Bool, true, false, ◌&&◌, ◌||◌, T, ltb, List, ◌++◌, length, take, Option, refl}
+use Rattle.std.specs.Prelude.{◌≡◌, ℕ, Bool, true, false, T, ◌++◌, length, take, Option, refl}
 use Rattle.std.proofs.Common.{sym, ◌∙◌, ap, subst, arith}
 use Rattle.std.proofs.lemmas.List.{length-append, take_all}
 use Rattle.evaluator.specs.Meaning.{Partition}
-use Rattle.evaluator.specs.Meaning.{Meaning, Laws, settles}
+use Rattle.evaluator.specs.Meaning.{Laws}
 use Rattle.lead_lag.specs.declared.WindowShift.{WindowShift}
 use Rattle.lead_lag.specs.declared.offset.Way.{Way}
 use Rattle.lead_lag.specs.Offset.{way_of}

@@ -1,5 +1,5 @@
 -- The sign of an offset: LAG or LEAD, reversed or not.
-use Rattle.std.specs.Prelude.{ℕ, zero, suc, Bool, true, false, ℤ, pos, negsuc, Some, None, Option}
+use Rattle.std.specs.Prelude.{zero, suc, Bool, true, false, ℤ, pos, negsuc, Some, None, Option}
 use Rattle.evaluator.specs.Arguments.{opposite}
 use Rattle.lead_lag.specs.declared.offset.WindowShiftKind.{WindowShiftKind}
 use Rattle.lead_lag.specs.declared.offset.WindowShiftKind.TheVariants.{Lag, Lead}

@@ -1,6 +1,5 @@
 -- What the parts of a row call do, over the cells that a window shows.
-use Rattle.std.specs.Prelude.{ℕ, ◌+◌, ◌-◌, max, Bool, true, false, cond, not, ◌&&◌, eqb, ltb, is_some, Some, None, Option}
-use Rattle.std.specs.Option.{unwrap_or}
+use Rattle.std.specs.Prelude.{ℕ, ◌+◌, ◌-◌, Bool, true, false, not, ◌&&◌, is_some, Some, Option}
 use Rattle.std.specs.List.{slice_get}
 use Rattle.present.specs.declared.held.Held.{Held}
 use Rattle.lead_lag.specs.declared.offset.Way.{Way}

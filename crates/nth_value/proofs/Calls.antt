@@ -1,23 +1,21 @@
 -- What making fresh, a row call and settling give.
-use Rattle.std.proofs.Common.{◌≡◌, ℕ, ◌+◌, ◌-◌, ◌<◌, ◌≤◌, max, Bool, true, false, not, ◌&&◌, ◌||◌, T, ltb, leb, ◌⊎◌, List, length, get_or, take, Some, None, Ok, Err, Option, Result, sym, refl, ap, ◌∙◌, subst, inl, inr, ⊎_elim, arith}
-use Rattle.std.proofs.lemmas.Bool.{cases_lt, cases_Bool, leb-true}
+use Rattle.std.proofs.Common.{◌≡◌, ℕ, ◌+◌, ◌<◌, ◌≤◌, Bool, true, false, ◌&&◌, ◌||◌, T, ltb, leb, length, get_or, take, Ok, Err, Option, sym, refl, ap, ◌∙◌, subst, inl, inr, ⊎_elim, arith}
+use Rattle.std.proofs.lemmas.Bool.{cases_lt, cases_Bool}
 use Rattle.std.proofs.lemmas.Bool.Decides.{nat_tests}
-use Rattle.column.specs.declared.fault.Fault.{Fault}
 use Rattle.column.specs.declared.fault.Fault.TheVariants.{TooEarly}
 use Rattle.column.specs.declared.column.Window.{Window}
 use Rattle.column.specs.Cells.{view}
 use Rattle.partition.specs.Table.{Frame}
-use Rattle.evaluator.specs.Meaning.{Partition, Meaning, Alike, settles}
-use Rattle.run.specs.Shown.{end_of, frame_at, Framed}
-use Rattle.run.specs.Rows.{Handed, Asks, Given, RowCall, SettleCall}
+use Rattle.evaluator.specs.Meaning.{Partition, Alike, settles}
+use Rattle.run.specs.Shown.{end_of, frame_at}
+use Rattle.run.specs.Rows.{Handed, Asks, RowCall, SettleCall}
 use Rattle.run.proofs.Seen.{seen_rows, seen_within, seen_frame, seen_view, hidden_view, given_ok, given_early}
-use Rattle.present.specs.Present.{at}
 use Rattle.nth_value.specs.declared.kind.Pick.{Pick}
 use Rattle.nth_value.specs.declared.state.NthValueState.{NthValueState}
 use Rattle.nth_value.specs.declared.NthValue.{NthValue}
-use Rattle.nth_value.specs.Frames.{pick_of, value_in}
+use Rattle.nth_value.specs.Frames.{pick_of}
 use Rattle.nth_value.specs.Settling.{start, answer_by, answered, settled_by}
-use Rattle.nth_value.specs.Nth.{frame_settled, nth_answer, Hides, Holding, nth_meaning, holding, nth_renewed, nth_stepped, nth_settling}
+use Rattle.nth_value.specs.Nth.{nth_answer, Hides, Holding, nth_meaning, holding, nth_renewed}
 use Rattle.nth_value.proofs.Holds.{fresh_holds, holds_on, answer_is}
 use Rattle.nth_value.proofs.Settles.{settles_holds, settling_rises}
 

@@ -1,13 +1,13 @@
 -- What a cursor knows, one row on.
-use Rattle.std.proofs.Common.{◌≡◌, ℕ, zero, suc, ◌+◌, ◌-◌, ◌<◌, ◌≤◌, max, Bool, true, false, List, reverse, length, ℤ, pos, negsuc, Some, None, Option, sym, refl, ap, ◌∙◌, subst, arith}
+use Rattle.std.proofs.Common.{◌≡◌, ℕ, zero, suc, ◌+◌, ◌-◌, ◌<◌, ◌≤◌, List, reverse, length, ℤ, pos, negsuc, Option, sym, ap, ◌∙◌, subst, arith}
 use Rattle.std.specs.List.{slice_get}
 use Rattle.column.specs.declared.column.Window.{Window}
 use Rattle.column.specs.declared.column.Column.{Column}
 use Rattle.column.specs.Cells.{column_cells, view}
 use Rattle.column.proofs.Cells.{view-all}
 use Rattle.present.specs.declared.held.Held.{Held}
-use Rattle.present.specs.Present.{at, before, ahead, from_on, up_to}
-use Rattle.present.specs.Counting.{Counting, held_mark, counted_row, oldest_source}
+use Rattle.present.specs.Present.{at, ahead, from_on, up_to}
+use Rattle.present.specs.Counting.{Counting, counted_row, oldest_source}
 use Rattle.present.proofs.Ahead.{ahead-same}
 use Rattle.present.proofs.Parts.{behind-before, ahead_part}
 use Rattle.present.proofs.Counting.{counts_next, after_next, counted-source}

@@ -1,24 +1,17 @@
 -- What is held, one row on and after settling.
-use Rattle.std.proofs.Common.{◌≡◌, ℕ, zero, suc, ◌+◌, ◌-◌, ◌<◌, ◌≤◌, max, Bool, true, false, cond, not, ◌&&◌, ltb, leb, ◌⊎◌, List, [], ◌∷◌, reverse, length, get_or, ℤ, pos, negsuc, is_some, Some, None, Option, unwrap_or, sym, refl, ap, ◌∙◌, subst, inl, inr, ⊎_elim, add-one, arith}
-use Rattle.std.specs.List.{slice_get}
-use Rattle.std.proofs.lemmas.Bool.{cases_Bool, cases_lt, cond-true, cond-false, ltb-true, leb-true}
-use Rattle.std.proofs.lemmas.Bool.Decides.{nat_tests}
+use Rattle.std.proofs.Common.{◌≡◌, ℕ, zero, suc, ◌+◌, ◌<◌, ◌≤◌, max, Bool, ◌⊎◌, length, Some, None, Option, unwrap_or, sym, refl, ap, ◌∙◌, inl, inr, ⊎_elim, arith}
+use Rattle.std.proofs.lemmas.Bool.{cases_lt}
 use Rattle.partition.specs.Table.{Frame}
 use Rattle.evaluator.specs.Meaning.{Partition}
-use Rattle.run.specs.Shown.{Framed, FromZero, Ordered, frame_at, frame_before}
+use Rattle.run.specs.Shown.{FromZero, Ordered, frame_at, frame_before}
 use Rattle.run.proofs.Seen.{before_at, at_next}
-use Rattle.present.specs.Present.{at, ahead}
-use Rattle.present.proofs.Ahead.{ahead_longer, ahead-number, nth-within}
-use Rattle.nth_value.specs.declared.kind.NthValueKind.{NthValueKind}
-use Rattle.nth_value.specs.declared.kind.NthValueKind.TheVariants.{First, Last, Nth}
+use Rattle.present.specs.Present.{at}
 use Rattle.nth_value.specs.declared.kind.Pick.{Pick}
-use Rattle.nth_value.specs.declared.kind.Pick.TheVariants.{Nothing, FromStart, FromEnd}
 use Rattle.nth_value.specs.declared.state.NthValueState.{NthValueState}
-use Rattle.nth_value.specs.Frames.{span, frame_rows, pick_of, picked, cell_of, value_in}
-use Rattle.nth_value.specs.Settling.{start, answer_by, answered, raised, fixed, settled_first, settled_nth, settled_by}
+use Rattle.nth_value.specs.Frames.{value_in}
+use Rattle.nth_value.specs.Settling.{start, answered, raised, fixed}
 use Rattle.nth_value.specs.Nth.{nth_answer, Hides, Holding}
-use Rattle.nth_value.specs.Spans.{start_in, end_in, end_out}
-use Rattle.nth_value.specs.Local.{value_same, cell_same, picked-within}
+use Rattle.nth_value.specs.Local.{value_same}
 
 -- nothing is hidden from a frame that begins at the mark or later
 unhidden : {V : Type 0} (pick : Pick) (ignoring : Bool) (p : Partition V) (j mark : ℕ) (cell : ℕ → Option V) → mark ≤ (frame_at p j).0 → Hides mark p.rows (frame_at p j).1 cell → value_in pick ignoring cell (frame_at p j) ≡ nth_answer pick ignoring p j

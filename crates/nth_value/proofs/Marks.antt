@@ -1,5 +1,5 @@
 -- The mark before any settling.
-use Rattle.std.proofs.Common.{◌≡◌, ℕ, ◌≤◌, max, List, [], ◌∷◌, Option, refl, arith}
+use Rattle.std.proofs.Common.{◌≡◌, ℕ, List, [], ◌∷◌, Option, refl, arith}
 use Rattle.partition.specs.Table.{Frame}
 use Rattle.nth_value.specs.declared.state.NthValueState.{NthValueState}
 use Rattle.nth_value.specs.Settling.{start, answered, unsettled, Rising, last_start, MarkLaw}

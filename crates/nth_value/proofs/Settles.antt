@@ -1,23 +1,23 @@
 -- Settling keeps an evaluator standing where all frames begin at 0, and its mark never falls.
-use Rattle.std.proofs.Common.{◌≡◌, ℕ, zero, suc, ◌+◌, ◌-◌, ◌<◌, ◌≤◌, max, Bool, true, false, cond, not, ◌&&◌, ltb, leb, ◌⊎◌, List, [], ◌∷◌, reverse, length, get_or, ℤ, pos, negsuc, is_some, Some, None, Option, sym, refl, ap, ◌∙◌, subst, inl, inr, ⊎_elim, arith}
+use Rattle.std.proofs.Common.{◌≡◌, ℕ, zero, suc, ◌+◌, ◌-◌, ◌<◌, ◌≤◌, Bool, true, false, cond, not, ◌&&◌, ltb, leb, ◌∷◌, ℤ, pos, negsuc, is_some, Some, None, Option, sym, refl, ap, ◌∙◌, subst, ⊎_elim, arith}
 use Rattle.std.specs.List.{slice_get}
-use Rattle.std.proofs.lemmas.Bool.{cases_Bool, cases_lt, cond-true, cond-false, ltb-true, leb-true}
+use Rattle.std.proofs.lemmas.Bool.{cases_lt, ltb-true}
 use Rattle.std.proofs.lemmas.Bool.Decides.{nat_tests}
 use Rattle.partition.specs.Table.{Frame}
 use Rattle.evaluator.specs.Meaning.{Partition}
-use Rattle.run.specs.Shown.{FromZero, Ordered, frame_at, frame_before}
+use Rattle.run.specs.Shown.{FromZero, frame_at, frame_before}
 use Rattle.present.specs.Present.{at, ahead}
 use Rattle.present.proofs.Ahead.{ahead_longer, ahead-number}
 use Rattle.nth_value.specs.declared.kind.NthValueKind.{NthValueKind}
 use Rattle.nth_value.specs.declared.kind.NthValueKind.TheVariants.{First, Last, Nth}
 use Rattle.nth_value.specs.declared.kind.Pick.{Pick}
-use Rattle.nth_value.specs.declared.kind.Pick.TheVariants.{Nothing, FromStart, FromEnd}
+use Rattle.nth_value.specs.declared.kind.Pick.TheVariants.{FromStart, FromEnd}
 use Rattle.nth_value.specs.declared.state.NthValueState.{NthValueState}
-use Rattle.nth_value.specs.Frames.{span, frame_rows, pick_of, picked, cell_of, value_in}
-use Rattle.nth_value.specs.Settling.{raised, fixed, settled_first, settled_nth, settled_by}
+use Rattle.nth_value.specs.Frames.{pick_of, cell_of, value_in}
+use Rattle.nth_value.specs.Settling.{raised, fixed, settled_nth, settled_by}
 use Rattle.nth_value.specs.Nth.{nth_answer, Hides, Holding}
 use Rattle.nth_value.specs.Spans.{start_in, end_in, end_out}
-use Rattle.nth_value.specs.Local.{value_same, cell_same, picked-within}
+use Rattle.nth_value.specs.Local.{value_same}
 use Rattle.nth_value.proofs.Holds.{later, raised_holds, fixed_holds}
 
 -- where no row of a stretch is present, all are NULL

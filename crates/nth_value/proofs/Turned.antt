@@ -1,5 +1,5 @@
 -- The same function from the other end, on turned rows and frames.
-use Rattle.std.proofs.Common.{◌≡◌, ℕ, zero, suc, ◌+◌, ◌-◌, ◌<◌, ◌≤◌, Bool, true, false, cond, ◌⊎◌, List, [], ◌∷◌, ◌++◌, map, reverse, length, get_or, ℤ, pos, negsuc, neg_ℤ, is_some, Some, None, Option, sym, refl, ap, ◌∙◌, subst, inl, inr, ⊎_elim, arith, w64, SFits}
+use Rattle.std.proofs.Common.{◌≡◌, ℕ, zero, suc, ◌+◌, ◌-◌, ◌<◌, ◌≤◌, Bool, true, false, cond, ◌⊎◌, List, [], ◌∷◌, map, reverse, length, get_or, ℤ, pos, negsuc, neg_ℤ, is_some, Some, None, Option, sym, refl, ap, ◌∙◌, inl, inr, ⊎_elim, arith, w64, SFits}
 use mathlib.Core.List.{reverse_aux}
 use Rattle.std.specs.Option.{option_map}
 use Rattle.std.specs.List.{slice_get}
@@ -11,7 +11,7 @@ use Rattle.column.proofs.Cells.{length-cells}
 use Rattle.partition.specs.Table.{Frame, Input, row_count, whole_refusal}
 use Rattle.partition.proofs.Accepted.{whole_says}
 use Rattle.evaluator.specs.Arguments.{opposite}
-use Rattle.evaluator.specs.Meaning.{Partition, partition}
+use Rattle.evaluator.specs.Meaning.{partition}
 use Rattle.evaluator.specs.Mirror.{turned, turned_frame}
 use Rattle.evaluator.proofs.Opposites.{opposite_is}
 use Rattle.evaluator.proofs.Turned.{cells-turned, frame-turned}
@@ -21,8 +21,8 @@ use Rattle.nth_value.specs.declared.kind.NthValueKind.{NthValueKind}
 use Rattle.nth_value.specs.declared.kind.NthValueKind.TheVariants.{First, Last, Nth}
 use Rattle.nth_value.specs.declared.kind.Pick.{Pick}
 use Rattle.nth_value.specs.declared.kind.Pick.TheVariants.{Nothing, FromStart, FromEnd}
-use Rattle.nth_value.specs.Frames.{span, frame_rows, pick_nth, pick_of, picked, cell_of, value_in}
-use Rattle.nth_value.specs.Nth.{frame_answers, nth_answer, turned_kind}
+use Rattle.nth_value.specs.Frames.{frame_rows, pick_nth, pick_of, picked, cell_of, value_in}
+use Rattle.nth_value.specs.Nth.{nth_answer, turned_kind}
 use Rattle.nth_value.specs.Spans.{full, span-full}
 use Rattle.nth_value.specs.Local.{picked-within}
 

@@ -1,10 +1,10 @@
 -- The four laws of FIRST, LAST and NTH.
-use Rattle.std.specs.Prelude.{◌≡◌, ℕ, ◌+◌, ◌<◌, ◌≤◌, Bool, true, false, ◌&&◌, ◌||◌, T, List, ◌++◌, length, get_or, take, Some, None, Option, nat_le, slice_index_or, refl}
+use Rattle.std.specs.Prelude.{◌≡◌, ℕ, ◌+◌, ◌<◌, ◌≤◌, Bool, true, false, T, List, ◌++◌, length, get_or, take, None, nat_le, slice_index_or, refl}
 use Rattle.std.proofs.Common.{sym, ◌∙◌, ap, arith}
 use Rattle.std.proofs.lemmas.List.{length-append, length-take, take_all, get_or-take}
 use Rattle.std.proofs.lemmas.Bool.{leb-true, le-leb}
 use Rattle.partition.specs.Table.{Frame}
-use Rattle.evaluator.specs.Meaning.{Partition, Meaning, Laws, settles}
+use Rattle.evaluator.specs.Meaning.{Partition, Laws}
 use Rattle.evaluator.proofs.Settles.{settled_says, settled_by}
 use Rattle.run.specs.Shown.{frame_at}
 use Rattle.present.specs.Present.{at}

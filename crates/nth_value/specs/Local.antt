@@ -1,16 +1,15 @@
 -- An answer over a frame depends on the frame's rows alone.
-use Rattle.std.specs.Prelude.{◌≡◌, ℕ, zero, suc, ◌+◌, ◌-◌, ◌<◌, ◌≤◌, Bool, true, false, cond, List, [], ◌∷◌, reverse, Some, None, Option, nat_le, refl}
-use Rattle.std.proofs.Common.{sym, ◌∙◌, ap, subst, ⊎_elim, arith}
+use Rattle.std.specs.Prelude.{◌≡◌, ℕ, ◌-◌, ◌<◌, ◌≤◌, Bool, true, false, cond, List, reverse, Some, None, Option, nat_le, refl}
+use Rattle.std.proofs.Common.{sym, ◌∙◌, ap, ⊎_elim, arith}
 use Rattle.std.specs.List.{slice_get}
 use Rattle.std.proofs.lemmas.Bool.{cases_lt, leb-true}
-use Rattle.partition.specs.Table.{Frame}
 use Rattle.present.specs.Present.{before, ahead, from_on}
 use Rattle.present.proofs.Counts.{number_of, some_same}
 use Rattle.present.proofs.Ahead.{ahead-number, ahead-same}
 use Rattle.present.proofs.Parts.{behind-before}
 use Rattle.nth_value.specs.declared.kind.Pick.{Pick}
 use Rattle.nth_value.specs.declared.kind.Pick.TheVariants.{Nothing, FromStart, FromEnd}
-use Rattle.nth_value.specs.Frames.{span, frame_rows, picked, cell_of, value_in}
+use Rattle.nth_value.specs.Frames.{frame_rows, picked, cell_of, value_in}
 use Rattle.nth_value.specs.Spans.{full, span-full}
 
 cond_some : (b : Bool) (x r : ℕ) → cond b (Some x) None ≡ Some r → (b ≡ true) × (x ≡ r)

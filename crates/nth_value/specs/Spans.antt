@@ -1,5 +1,5 @@
 -- All rows of a frame, counted from either end.
-use Rattle.std.specs.Prelude.{◌≡◌, ℕ, zero, suc, ◌+◌, ◌-◌, ◌<◌, ◌≤◌, List, [], ◌∷◌, reverse, length, Some, None, Option, refl}
+use Rattle.std.specs.Prelude.{◌≡◌, ℕ, zero, suc, ◌+◌, ◌-◌, ◌<◌, ◌≤◌, List, ◌∷◌, reverse, length, Some, None, Option, refl}
 use Rattle.std.proofs.Common.{sym, ◌∙◌, ap, arith}
 use Rattle.std.specs.List.{slice_get}
 use Rattle.std.proofs.lemmas.List.{length-reverse}
@@ -7,7 +7,7 @@ use Rattle.std.proofs.lemmas.Option.{slice_get_past}
 use Rattle.present.specs.Present.{ahead}
 use Rattle.present.proofs.Behind.{behind_push}
 use Rattle.nth_value.specs.declared.kind.Pick.{Pick}
-use Rattle.nth_value.specs.declared.kind.Pick.TheVariants.{Nothing, FromStart, FromEnd}
+use Rattle.nth_value.specs.declared.kind.Pick.TheVariants.{FromStart, FromEnd}
 use Rattle.nth_value.specs.Frames.{span, picked}
 
 -- cells that are all present

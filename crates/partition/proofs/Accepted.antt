@@ -1,11 +1,11 @@
 -- What an accepted call on a whole partition has.
-use Rattle.std.proofs.Common.{◌≡◌, ℕ, ◌<◌, ◌≤◌, Bool, true, false, cond, ◌&&◌, ◌||◌, List, [], ◌∷◌, length, get_or, Some, None, Option, sym, refl, ap, ◌∙◌, subst, arith}
+use Rattle.std.proofs.Common.{◌≡◌, ℕ, ◌<◌, ◌≤◌, Bool, true, false, ◌&&◌, ◌||◌, List, [], ◌∷◌, length, get_or, Some, None, Option, sym, refl, ap, ◌∙◌, subst, arith}
 use Rattle.std.proofs.lemmas.List.{nil_from_length, same_lists, get_or_default}
 use Rattle.std.proofs.lemmas.Bool.Decides.{nat_tests}
 use Rattle.column.specs.declared.fault.Fault.{Fault}
 use Rattle.column.specs.Cells.{cells}
 use Rattle.partition.specs.Peers.{Group, peers}
-use Rattle.column.specs.Refusal.{row_limit, column_refusal}
+use Rattle.column.specs.Refusal.{column_refusal}
 use Rattle.partition.specs.Table.{Frame, Input, row_count, absent, unfit, differ, frames_fault, groups_fault, unless_absent, frames_refusal, groups_refusal, absent_refusal, output_refusal, whole_refusal, Accepted}
 use Rattle.column.proofs.Columns.{column-says}
 use Rattle.column.proofs.Exits.{no_first}

@@ -1,5 +1,5 @@
 -- Peer groups: the longest runs of rows that are the same as the run's first row.
-use Rattle.std.specs.Prelude.{◌≡◌, ℕ, ◌+◌, ◌<◌, ◌≤◌, Bool, true, false, cond, List, [], ◌∷◌, length, Some, None, Option, slice_index_or}
+use Rattle.std.specs.Prelude.{◌≡◌, ℕ, ◌+◌, ◌<◌, ◌≤◌, Bool, true, false, cond, List, [], ◌∷◌, length, None, Option, slice_index_or}
 use Rattle.column.specs.Cells.{same_cell}
 
 -- a group's first row, and the row after its last

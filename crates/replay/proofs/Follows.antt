@@ -1,5 +1,5 @@
 -- The evaluator of a run, by what each call of the history leaves of it.
-use Rattle.std.proofs.Common.{◌≡◌, ℕ, ◌+◌, ◌<◌, Bool, List, [], ◌∷◌, ◌++◌, length, get_or, take, sym, refl, ap, ◌∙◌, subst, ⊎_elim}
+use Rattle.std.proofs.Common.{◌≡◌, ℕ, ◌+◌, ◌<◌, Bool, List, [], ◌∷◌, ◌++◌, length, get_or, take, sym, ap, ◌∙◌, subst, ⊎_elim}
 use Rattle.std.proofs.lemmas.List.{append_assoc, append-nil}
 use Rattle.replay.specs.declared.calls.Call.{Call}
 use Rattle.replay.specs.declared.calls.Entry.{Entry}
@@ -8,7 +8,7 @@ use Rattle.run.specs.declared.run.Run.{Run}
 use Rattle.run.specs.Rows.{Stepping, Settling}
 use Rattle.evaluator.specs.Meaning.{Meaning}
 use Rattle.replay.specs.History.{Event, history, progress_at}
-use Rattle.replay.specs.Act.{Acted, Followed, evaluator_of, progress_of, evaluator_after, held_from, held}
+use Rattle.replay.specs.Act.{Followed, evaluator_of, progress_of, evaluator_after, held_from, held}
 use Rattle.replay.proofs.Splits.{split_push, never_nil}
 use Rattle.replay.proofs.Holds.{history-next}
 

@@ -1,5 +1,5 @@
 -- What holds of a run after each call, with the history so far.
-use Rattle.std.proofs.Common.{◌≡◌, ℕ, zero, suc, ◌+◌, ◌<◌, ◌≤◌, Bool, true, false, cond, ◌&&◌, T, ◌⊎◌, List, [], ◌∷◌, ◌++◌, length, get_or, take, Some, None, Option, sym, refl, ap, ◌∙◌, subst, inl, inr, ⊎_elim, arith}
+use Rattle.std.proofs.Common.{◌≡◌, ℕ, ◌+◌, ◌<◌, ◌≤◌, Bool, cond, List, [], ◌∷◌, ◌++◌, length, get_or, take, None, Option, sym, refl, ap, ◌∙◌, subst, ⊎_elim, arith}
 use Rattle.std.proofs.lemmas.List.{append_assoc, take_more, length-take-le}
 use Rattle.run.specs.declared.progress.Progress.{Progress}
 use Rattle.replay.specs.declared.calls.Call.{Call}
@@ -9,10 +9,10 @@ use Rattle.replay.specs.declared.calls.Entry.{Entry}
 use Rattle.run.specs.declared.run.Run.{Run}
 use Rattle.evaluator.specs.Meaning.{Partition}
 use Rattle.partition.specs.Table.{Frame}
-use Rattle.run.specs.Shown.{Framed, end_of, based}
-use Rattle.evaluator.specs.Meaning.{Meaning, Alike, Laws, settles}
+use Rattle.run.specs.Shown.{end_of, based}
+use Rattle.evaluator.specs.Meaning.{Meaning, Alike, Laws}
 use Rattle.run.specs.Table.{is_total}
-use Rattle.replay.specs.History.{Event, history, answered, accepted, last_frame, frame_of, total_of, total_after, progress_at, Ruled, ShownBy, Shown, AsWhole, Marked, Replayed}
+use Rattle.replay.specs.History.{Event, history, answered, accepted, last_frame, frame_of, total_of, total_after, progress_at, Ruled, Shown, AsWhole, Marked, Replayed}
 use Rattle.replay.specs.Act.{Acted, Ended, Does, evaluator_of, progress_of, total_now}
 use Rattle.replay.proofs.Splits.{split_push, never_nil, accepted_push, last_push, total_push, history_push}
 use Rattle.run.proofs.Asks.{Kept}

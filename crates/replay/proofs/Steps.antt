@@ -1,5 +1,5 @@
 -- One call more on a run: what held of the history so far holds of the longer one.
-use Rattle.std.proofs.Common.{◌≡◌, ℕ, zero, suc, ◌+◌, ◌<◌, ◌≤◌, min, Bool, true, false, cond, not, ◌&&◌, ◌||◌, T, eqb, ltb, ◌⊎◌, List, [], ◌∷◌, ◌++◌, map, length, get_or, take, Some, None, Ok, Err, Option, Result, sym, refl, ap, ◌∙◌, subst, inl, inr, ⊎_elim, add-zero, add-one, arith}
+use Rattle.std.proofs.Common.{◌≡◌, ℕ, zero, suc, ◌+◌, ◌<◌, ◌≤◌, Bool, true, false, cond, ◌&&◌, T, List, [], ◌∷◌, length, get_or, take, Some, None, Ok, Err, Option, Result, sym, refl, ap, ◌∙◌, subst, ⊎_elim, add-zero, add-one, arith}
 use Rattle.std.proofs.lemmas.List.{length-take, get_or_past}
 use Rattle.std.proofs.lemmas.Bool.{cases_lt}
 use Rattle.column.specs.declared.fault.Fault.{Fault}
@@ -9,18 +9,15 @@ use Rattle.run.specs.declared.progress.Progress.{Progress}
 use Rattle.replay.specs.declared.calls.Call.{Call}
 use Rattle.replay.specs.declared.calls.Call.TheVariants.{Request, Settle, KeepMark, Close}
 use Rattle.replay.specs.declared.calls.Outcome.{Outcome}
-use Rattle.replay.specs.declared.calls.Outcome.TheVariants.{Answer, Refused, Done, Mark, NotTaken}
-use Rattle.replay.specs.declared.calls.Entry.{Entry}
+use Rattle.replay.specs.declared.calls.Outcome.TheVariants.{Answer, Refused, Done}
 use Rattle.evaluator.specs.Meaning.{Partition}
 use Rattle.partition.specs.Table.{Frame}
-use Rattle.run.specs.Shown.{Shows, Framed, FromZero, Ordered, shown, end_of, frame_at, frame_before, based_frames, based}
+use Rattle.run.specs.Shown.{Framed, FromZero, end_of, frame_at, frame_before, based}
 use Rattle.evaluator.specs.Meaning.{Meaning, Alike, Laws, settles}
-use Rattle.run.specs.Rows.{Given}
 use Rattle.run.specs.Table.{is_total, unfit_total}
-use Rattle.run.specs.Run.{refusal_at, frame_or_none, advanced, OutcomeBy, Requested, Settled}
-use Rattle.replay.specs.History.{Event, answered, done, accepted, last_frame, frame_of, total_of, total_after, progress_at, Tried, ByTable, close_outcome, Ruled, ShownBy, Shown, Right, AsWhole, Replayed}
+use Rattle.run.specs.Run.{refusal_at, frame_or_none, OutcomeBy, Requested, Settled}
+use Rattle.replay.specs.History.{answered, done, frame_of, total_after, ByTable, close_outcome, Ruled, ShownBy, AsWhole}
 use Rattle.replay.specs.Act.{noted, noted_done, Does}
-use Rattle.replay.proofs.Splits.{split_push, accepted_push, last_push, total_push}
 use Rattle.run.proofs.Zeroed.{based_framed, based_ordered, based-from_zero, take-based, at-based}
 use Rattle.run.proofs.Asks.{Fits, Kept, ordered_more, zero_more, fits_here, known_total, asked, Got, got}
 

@@ -2,12 +2,10 @@
 use Rattle.std.specs.Prelude.{◌≡◌, ℕ, Bool, cond, List, [], ◌∷◌, ◌++◌, Some, None, Ok, Err, Option, Result}
 use Rattle.column.specs.declared.fault.Fault.{Fault}
 use Rattle.run.specs.declared.progress.Progress.{Progress}
-use Rattle.run.specs.declared.run.Open.{Open}
-use Rattle.run.specs.declared.closed.Closed.{Closed}
 use Rattle.replay.specs.declared.calls.Call.{Call}
 use Rattle.replay.specs.declared.calls.Call.TheVariants.{Request, Settle, KeepMark, Close}
 use Rattle.replay.specs.declared.calls.Outcome.{Outcome}
-use Rattle.replay.specs.declared.calls.Outcome.TheVariants.{Answer, Refused, Done, Mark, NotTaken}
+use Rattle.replay.specs.declared.calls.Outcome.TheVariants.{Answer, Refused, Done, Mark}
 use Rattle.replay.specs.declared.calls.Entry.{Entry}
 use Rattle.run.specs.declared.run.Run.{Run}
 use Rattle.run.specs.declared.run.Run.TheVariants.{Opened, Shut}

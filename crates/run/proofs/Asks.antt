@@ -1,22 +1,20 @@
 -- A request past the checks, on a run that stands at a partition whose frames are made to begin at 0 where the run is so set.
-use Rattle.std.proofs.Common.{◌≡◌, ℕ, zero, suc, ◌+◌, ◌<◌, ◌≤◌, min, Bool, true, false, cond, not, ◌&&◌, ◌||◌, T, eqb, ltb, ◌⊎◌, List, [], ◌∷◌, map, length, get_or, take, Some, None, Ok, Err, Option, Result, sym, refl, ap, ◌∙◌, subst, inl, inr, ⊎_elim, add-one, arith, eqb→eq}
+use Rattle.std.proofs.Common.{◌≡◌, ℕ, zero, suc, ◌+◌, ◌<◌, ◌≤◌, Bool, true, false, T, List, length, take, Some, None, Ok, Err, Option, Result, sym, refl, ap, ◌∙◌, subst, ⊎_elim, arith, eqb→eq}
 use Rattle.std.proofs.lemmas.Bool.{cases_lt}
 use Rattle.std.proofs.lemmas.Bool.Decides.{nat_tests}
-use Rattle.std.proofs.lemmas.List.{length-take}
 use Rattle.column.specs.declared.fault.Fault.{Fault}
-use Rattle.column.specs.declared.fault.Fault.TheVariants.{Lengths, RowLimit, NoFrame, NoRowLeft, BeginsLate, PastTotal, BadFrame, TooEarly}
+use Rattle.column.specs.declared.fault.Fault.TheVariants.{TooEarly}
 use Rattle.column.specs.declared.column.Window.{Window}
 use Rattle.run.specs.declared.progress.Progress.{Progress}
 use Rattle.evaluator.specs.Meaning.{Partition}
 use Rattle.partition.specs.Table.{Frame}
-use Rattle.run.specs.Shown.{Shows, Framed, FromZero, Ordered, shown, end_of, frame_at, frame_before, based_frames, based}
-use Rattle.column.specs.Refusal.{row_limit}
-use Rattle.evaluator.specs.Meaning.{Meaning, Alike, Laws, settles}
+use Rattle.run.specs.Shown.{Shows, Framed, Ordered, shown, end_of, frame_at, frame_before, based_frames, based}
+use Rattle.evaluator.specs.Meaning.{Meaning, Laws, settles}
 use Rattle.run.specs.Rows.{Asks, Handed, Given, left_by}
 use Rattle.column.specs.Refusal.{passes}
-use Rattle.run.specs.Table.{refusal, is_total, above_total, bound, absent, unfit_frame}
+use Rattle.run.specs.Table.{refusal, is_total}
 use Rattle.run.specs.Run.{refusal_at, frame_or_none, OutcomeBy, Requested}
-use Rattle.run.proofs.Zeroed.{based_framed, based_ordered, take-based, at-based, length-based}
+use Rattle.run.proofs.Zeroed.{based_framed, based_ordered, at-based}
 
 -- what the checks say of a wanted frame
 pub record Fits (b : Progress) (g : Frame) : Type 0 where

@@ -1,15 +1,14 @@
 -- For the proofs of evaluators: what a row call sees of a partition that it asks of.
-use Rattle.std.proofs.Common.{◌≡◌, ℕ, zero, suc, ◌+◌, ◌-◌, ◌<◌, ◌≤◌, Bool, true, false, T, ltb, List, [], ◌∷◌, length, get_or, take, drop, Some, None, Ok, Err, Option, Result, sym, refl, ap, ◌∙◌, subst, add-one, arith}
+use Rattle.std.proofs.Common.{◌≡◌, ℕ, zero, suc, ◌+◌, ◌-◌, ◌<◌, ◌≤◌, Bool, true, false, T, ltb, length, get_or, take, drop, None, Ok, Err, sym, refl, ap, ◌∙◌, subst, add-one, arith}
 use Rattle.std.proofs.lemmas.Bool.{cond-true, cond-false, lt-ltb, le-ltb}
 use Rattle.std.proofs.lemmas.List.{length-take-le, get_or-take, get_or-drop}
-use Rattle.column.specs.declared.fault.Fault.{Fault}
 use Rattle.column.specs.declared.fault.Fault.TheVariants.{TooEarly}
 use Rattle.column.specs.declared.column.Window.{Window}
 use Rattle.column.specs.Cells.{view}
 use Rattle.evaluator.specs.Meaning.{Partition}
 use Rattle.partition.specs.Table.{Frame}
-use Rattle.run.specs.Shown.{Ordered, Framed, frame_at, frame_before, shown, end_of}
-use Rattle.evaluator.specs.Meaning.{Meaning, Alike, settles}
+use Rattle.run.specs.Shown.{Ordered, frame_at, frame_before, shown, end_of}
+use Rattle.evaluator.specs.Meaning.{Meaning}
 use Rattle.run.specs.Rows.{Handed, Asks, Given}
 use Rattle.column.proofs.Cells.{length-cells}
 

@@ -1,9 +1,9 @@
 -- A partition whose frames are made to begin at 0, which settling wants, and what it shares with the partition.
-use Rattle.std.proofs.Common.{◌≡◌, ℕ, zero, suc, ◌+◌, ◌<◌, ◌≤◌, Bool, true, false, cond, T, List, [], ◌∷◌, map, length, get_or, take, sym, refl, ap, ◌∙◌, subst, arith}
+use Rattle.std.proofs.Common.{◌≡◌, ℕ, zero, suc, ◌<◌, Bool, true, false, T, List, [], ◌∷◌, map, length, get_or, take, sym, refl, ap, ◌∙◌, arith}
 use Rattle.std.proofs.lemmas.List.{length-map}
 use Rattle.evaluator.specs.Meaning.{Partition}
 use Rattle.partition.specs.Table.{Frame}
-use Rattle.run.specs.Shown.{Framed, FromZero, Ordered, frame_at, zeroed, based_frames, based}
+use Rattle.run.specs.Shown.{Framed, FromZero, Ordered, zeroed, based_frames, based}
 
 pub zeroed-at : (fs : List Frame) (k : ℕ) → get_or (map zeroed fs) k (0, 0) ≡ (0, (get_or fs k (0, 0)).1)
 zeroed-at [] k = refl

@@ -1,8 +1,7 @@
 -- Which check refuses a call on a run, and with which place: the first that fails, from the top.
-use Rattle.std.specs.Prelude.{◌≡◌, ℕ, ◌+◌, min, Bool, true, false, cond, not, ◌&&◌, ◌||◌, List, length, Some, None, Ok, Err, Option, Result, ◌==◌, nat_lt}
+use Rattle.std.specs.Prelude.{ℕ, ◌+◌, min, Bool, true, false, cond, not, ◌&&◌, ◌||◌, Some, None, Ok, Err, Option, Result, ◌==◌, nat_lt}
 use Rattle.column.specs.declared.fault.Fault.{Fault}
-use Rattle.column.specs.declared.fault.Fault.TheVariants.{Lengths, RowLimit, NoFrame, NoRowLeft, BeginsLate, PastTotal, BadFrame, TooEarly, NotFromZero, BadTotal, Unanswered}
-use Rattle.column.specs.declared.column.Window.{Window}
+use Rattle.column.specs.declared.fault.Fault.TheVariants.{Lengths, RowLimit, NoFrame, NoRowLeft, BeginsLate, PastTotal, BadFrame}
 use Rattle.run.specs.declared.progress.Progress.{Progress}
 use Rattle.partition.specs.Table.{Frame}
 use Rattle.column.specs.Refusal.{row_limit}

@@ -1,5 +1,5 @@
 -- The answers of the sessions, and of the records. Assumes nothing.
-use Rattle.std.proofs.Common.{◌≡◌, ℕ, ◌+◌, ◌<◌, ◌≤◌, List, [], ◌∷◌, ◌++◌, map, length, get_or, take, drop, None, vec_items, Vec, sym, refl, ap, ◌∙◌, subst, arith, length-append}
+use Rattle.std.proofs.Common.{◌≡◌, ℕ, ◌+◌, ◌<◌, List, [], ◌∷◌, ◌++◌, map, length, get_or, take, drop, None, vec_items, Vec, sym, refl, ap, ◌∙◌, subst, arith, length-append}
 use Rattle.std.proofs.lemmas.List.{length_push, map-append, length-map, get_or-map, take_at, take-append-drop, take_all, get_or_default}
 use Rattle.sessions.specs.declared.record.Record.{Record}
 use Rattle.sessions.specs.Sessions.{Cell, session_at, cells_of, last_present, last_expiry, Numbered, Grouped, lists, Answered, AllAnswered, Gathers, Gathered, LastRenewed}

@@ -1,8 +1,8 @@
 -- A record more in the lists of the sessions. Assumes nothing.
-use Rattle.std.proofs.Common.{◌≡◌, ℕ, ◌+◌, ◌<◌, ◌≤◌, Bool, true, false, cond, ◌⊎◌, List, [], ◌∷◌, ◌++◌, map, length, get_or, take, drop, set, replicate, Some, None, vec_items, vec_len, Option, Vec, sym, refl, ap, ◌∙◌, subst, inl, inr, ⊎_elim, append_assoc, append-nil, arith, length-append, length-set}
+use Rattle.std.proofs.Common.{◌≡◌, ℕ, ◌+◌, ◌<◌, ◌≤◌, Bool, true, false, cond, List, [], ◌∷◌, ◌++◌, map, length, get_or, take, set, replicate, vec_items, vec_len, Vec, sym, refl, ap, ◌∙◌, subst, ⊎_elim, append-nil, arith, length-set}
 use Rattle.std.specs.Vec.{with_item}
 use Rattle.std.specs.Str.{bytes_eq}
-use Rattle.std.proofs.lemmas.List.{map-set, get_or-map, length-map, take_more, take-append-drop, take_at, get_or-set_same, get_or-set_other, get_or_append_left, get_or_push, length_push, get_or-replicate, length-replicate, take_all, map-append, replicate_more, get_or_default, get_or_past}
+use Rattle.std.proofs.lemmas.List.{map-set, get_or-map, length-map, take_more, get_or-set_same, get_or-set_other, get_or_append_left, get_or_push, length_push, get_or-replicate, length-replicate, take_all, map-append, replicate_more, get_or_default, get_or_past}
 use Rattle.std.proofs.lemmas.Slice.Eq.{bytes_eq-Decides}
 use Rattle.std.proofs.lemmas.Bool.{cases_eq, cases_lt}
 use Rattle.column.specs.Refusal.{row_limit}

@@ -1,10 +1,10 @@
 -- The text of the rows, and how many cells are NULL. Assumes nothing.
-use Rattle.std.proofs.Common.{◌≡◌, ℕ, ◌+◌, ◌-◌, ◌<◌, ◌≤◌, Bool, true, false, cond, not, List, [], ◌∷◌, ◌++◌, map, length, get_or, take, is_some, Some, None, sym, refl, ap, ◌∙◌, subst, append_assoc, append-nil, arith}
+use Rattle.std.proofs.Common.{◌≡◌, ℕ, ◌+◌, ◌<◌, ◌≤◌, Bool, true, false, cond, not, List, [], ◌∷◌, ◌++◌, map, length, get_or, take, is_some, Some, None, sym, refl, ap, ◌∙◌, subst, append_assoc, append-nil, arith}
 use Rattle.std.proofs.lemmas.List.{take_more, take_all, map-append, length-take}
 use Rattle.sessions.specs.declared.record.Record.{Record}
 use Rattle.sessions.specs.Reading.{IsTable}
 use Rattle.sessions.specs.Sessions.{Cell, LastRenewed, sessions_in}
-use Rattle.sessions.specs.Report.{row_text, rows_text, nulls, expiry_of, head_text, summary_text, report_text, Reported}
+use Rattle.sessions.specs.Report.{row_text, rows_text, nulls, expiry_of, head_text, summary_text, Reported}
 
 true_not_false : true ≡ false → ⊥
 true_not_false e = subst (λ b. cond b (Unit {0}) ⊥) e tt

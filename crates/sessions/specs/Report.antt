@@ -1,8 +1,7 @@
 -- The text of the report. Assumes nothing.
-use Rattle.std.specs.Prelude.{◌≡◌, ℕ, ◌+◌, ◌-◌, List, [], ◌∷◌, ◌++◌, map, length, ℤ, Some, None, codes, decimal, Option}
+use Rattle.std.specs.Prelude.{◌≡◌, ℕ, ◌+◌, ◌-◌, List, [], ◌∷◌, ◌++◌, map, length, ℤ, Some, None, codes, decimal}
 use Rattle.std.specs.Fmt.{signed_decimal}
 use Rattle.sessions.specs.declared.record.Record.{Record}
-use Rattle.sessions.specs.declared.columns.Columns.{Columns}
 use Rattle.sessions.specs.Reading.{IsTable}
 use Rattle.sessions.specs.Sessions.{Cell, LastRenewed, sessions_in}
 

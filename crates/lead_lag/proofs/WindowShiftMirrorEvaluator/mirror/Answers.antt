@@ -1,4 +1,4 @@
-use Rattle.std.proofs.Common.{◌≡◌, ◌-◌, Bool, false, ℤ, sym, refl, ap, ◌∙◌, subst, w64, SFits}
+use Rattle.std.proofs.Common.{◌≡◌, ◌-◌, Bool, false, ℤ, sym, ap, subst, w64, SFits}
 use Rattle.partition.specs.Table.{row_count}
 use Rattle.evaluator.specs.Meaning.{partition}
 use Rattle.evaluator.specs.Mirror.{Mirror, turned}

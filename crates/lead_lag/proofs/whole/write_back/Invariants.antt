@@ -1,4 +1,4 @@
-use Rattle.std.proofs.Common.{true, length}
+use Rattle.std.proofs.Common.{true}
 use Rattle.column.specs.Cells.{column_cells}
 use Rattle.column.proofs.Writes.{Written}
 use Rattle.lead_lag.specs.declared.offset.Way.TheVariants.{Back}

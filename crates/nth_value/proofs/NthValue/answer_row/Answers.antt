@@ -1,5 +1,4 @@
-use Rattle.std.proofs.Common.{◌≡◌, refl, ap, ◌∙◌, rules}
-use Rattle.column.specs.Cells.{view}
+use Rattle.std.proofs.Common.{refl, ap, ◌∙◌}
 use Rattle.nth_value.specs.Settling.{answered}
 use Rattle.nth_value.specs.Nth.{holding}
 use Rattle.nth_value.proofs.Calls.{too_early, answers}

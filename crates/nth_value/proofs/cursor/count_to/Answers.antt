@@ -1,4 +1,3 @@
-use Rattle.std.proofs.Common.{arith}
 use Rattle.nth_value.proofs.Cursors.{count_on}
 use Rattle.nth_value.proofs.cursor.count_to.Goals as goal
 

@@ -1,4 +1,4 @@
-use Rattle.std.proofs.Common.{◌≡◌, ℕ, ◌<◌, ◌≤◌, List, Option}
+use Rattle.std.proofs.Common.{◌≡◌, ◌<◌, ◌≤◌, List, Option}
 use Rattle.present.specs.Counting.{Counting}
 use Rattle.nth_value.specs.Cursors.{ShowsAll}
 use Rattle.nth_value.proofs.cursor.count_to.Given as goal

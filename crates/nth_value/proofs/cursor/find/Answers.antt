@@ -1,6 +1,5 @@
-use Rattle.std.proofs.Common.{◌≡◌, ℕ, ◌-◌, true, List, length, sym, ap, ◌∙◌, subst}
+use Rattle.std.proofs.Common.{ℕ, ◌-◌, List, sym, ap, ◌∙◌, subst}
 use Rattle.std.specs.List.{slice_get}
-use Rattle.column.specs.Cells.{view}
 use Rattle.present.specs.Present.{at, ahead}
 use Rattle.nth_value.specs.declared.cursor.Cursor.{Cursor}
 use Rattle.nth_value.specs.Cursors.{Knows, finds}

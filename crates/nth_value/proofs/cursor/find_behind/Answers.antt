@@ -1,7 +1,6 @@
-use Rattle.std.proofs.Common.{◌≡◌, ℕ, ◌-◌, ◌≤◌, List, reverse, sym, ap, ◌∙◌, subst, arith}
-use Rattle.std.specs.List.{slice_get}
+use Rattle.std.proofs.Common.{ℕ, ◌≤◌, sym, subst, arith}
 use Rattle.present.specs.Counting.{Counting}
-use Rattle.nth_value.proofs.Cursors.{shown-ahead, behind_found}
+use Rattle.nth_value.proofs.Cursors.{behind_found}
 use Rattle.nth_value.proofs.cursor.find_behind.Goals as goal
 
 pub returns : goal.returns

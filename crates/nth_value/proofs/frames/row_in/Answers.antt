@@ -1,4 +1,4 @@
-use Rattle.std.proofs.Common.{◌-◌, arith}
+use Rattle.std.proofs.Common.{arith}
 use Rattle.nth_value.specs.Spans.{start_in, start_out, end_in, end_out}
 use Rattle.nth_value.proofs.frames.row_in.Goals as goal
 

@@ -1,12 +1,11 @@
-use Rattle.std.proofs.Common.{◌≡◌, ℕ, ◌<◌, ◌≤◌, length, get_or, Option, sym, refl, ap, ◌∙◌, arith}
-use Rattle.column.specs.declared.column.Column.{Column}
-use Rattle.column.specs.Cells.{column_cells, view}
+use Rattle.std.proofs.Common.{◌≡◌, ℕ, length, get_or, sym, refl, ap, ◌∙◌, arith}
+use Rattle.column.specs.Cells.{column_cells}
 use Rattle.column.specs.Slots.{written}
 use Rattle.column.proofs.Cells.{length-cells, view-all}
 use Rattle.column.proofs.Writes.{none_written, one_more, written_same}
 use Rattle.present.specs.Present.{at}
 use Rattle.nth_value.specs.Frames.{cell_of}
-use Rattle.nth_value.specs.Cursors.{Knows, finds}
+use Rattle.nth_value.specs.Cursors.{finds}
 use Rattle.nth_value.specs.Nth.{frame_answers}
 use Rattle.nth_value.proofs.Cursors.{found_cell}
 use Rattle.nth_value.proofs.whole.write_all.Goals as goal

@@ -1,5 +1,4 @@
-use Rattle.std.proofs.Common.{◌≤◌, length, arith, rules}
-use Rattle.column.specs.Cells.{column_cells}
+use Rattle.std.proofs.Common.{arith, rules}
 use Rattle.column.proofs.Cells.{length-cells}
 use Rattle.partition.proofs.peers.group_end.Goals as goal
 

@@ -1,6 +1,5 @@
-use Rattle.std.proofs.Common.{◌≡◌, ℕ, ◌+◌, ◌<◌, ◌≤◌, Bool, true, false, length, get_or, sym, refl, ap, ◌∙◌, subst, arith, rules, below_more}
+use Rattle.std.proofs.Common.{◌≡◌, false, length, get_or, arith, rules, below_more}
 use Rattle.column.specs.Cells.{column_cells}
-use Rattle.partition.specs.Peers.{Group}
 use Rattle.partition.specs.Table.{column_groups, differ}
 use Rattle.column.proofs.Cells.{length-cells}
 use Rattle.partition.proofs.Groups.{at_group, at_end, at_more}

@@ -1,4 +1,3 @@
-use Rattle.std.proofs.Common.{◌≡◌, true, false, is_some, sym, ap, ◌∙◌}
 use Rattle.column.specs.Cells.{view}
 use Rattle.present.proofs.Counts.{scan_found, scan_on, scan_past}
 use Rattle.present.proofs.scan.present_ahead.Goals as goal

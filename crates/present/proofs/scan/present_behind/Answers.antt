@@ -1,4 +1,4 @@
-use Rattle.std.proofs.Common.{◌≡◌, ◌-◌, true, false, is_some, sym, refl, ap, ◌∙◌, arith}
+use Rattle.std.proofs.Common.{◌-◌, is_some, sym, refl, ap, ◌∙◌}
 use Rattle.column.specs.Cells.{view}
 use Rattle.present.proofs.Behind.{down_found, down_on, down_past}
 use Rattle.present.proofs.scan.present_behind.Goals as goal

@@ -1,9 +1,9 @@
-use Rattle.std.proofs.Common.{◌≡◌, ℕ, ◌+◌, ◌<◌, ◌≤◌, length, take, vec_items, sym, refl, ap, ◌∙◌, subst, arith, rules}
+use Rattle.std.proofs.Common.{◌≡◌, ℕ, ◌+◌, length, take, vec_items, refl, ap, ◌∙◌, subst, arith}
 use Rattle.std.proofs.lemmas.List.{length_push, take_all}
 use Rattle.std.proofs.lemmas.Result.{err_from_is_err_and}
 use Rattle.run.specs.declared.run.Run.TheVariants.{Opened}
 use Rattle.replay.specs.History.{history}
-use Rattle.replay.specs.Act.{Followed, evaluator_of}
+use Rattle.replay.specs.Act.{Followed}
 use Rattle.replay.proofs.Steps.{alike_refl}
 use Rattle.replay.proofs.Holds.{Stands, start, turns, ends}
 use Rattle.replay.proofs.Follows.{follow_start, follow_turn}

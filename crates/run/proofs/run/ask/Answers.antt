@@ -1,4 +1,4 @@
-use Rattle.std.proofs.Common.{length, refl}
+use Rattle.std.proofs.Common.{refl}
 use Rattle.std.proofs.lemmas.Result.{err_from_is_err_and}
 use Rattle.run.specs.Run.{refusal_at}
 use Rattle.run.proofs.Asks.{handed_by, refused_by, left-refused, passed}

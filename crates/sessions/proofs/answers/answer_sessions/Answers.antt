@@ -1,4 +1,4 @@
-use Rattle.std.proofs.Common.{vec_items, subst, arith}
+use Rattle.std.proofs.Common.{vec_items, subst}
 use Rattle.sessions.specs.Sessions.{Answered}
 use Rattle.sessions.proofs.Groups.{bounded_at}
 use Rattle.sessions.proofs.Gathers.{answered_more}

@@ -1,4 +1,4 @@
-use Rattle.std.proofs.Common.{◌≡◌, ℕ, length, vec_items, sym, subst, arith, rules}
+use Rattle.std.proofs.Common.{◌≡◌, ℕ, length, vec_items, sym, subst, arith}
 use Rattle.sessions.specs.Sessions.{Numbered}
 use Rattle.sessions.proofs.Numbers.{Told, told_more, numbered}
 use Rattle.sessions.proofs.numbering.number_sessions.Goals as goal

@@ -1,4 +1,3 @@
-use Rattle.std.proofs.Common.{rules}
 use Rattle.sessions.proofs.Groups.{length_at, append_at}
 use Rattle.sessions.proofs.partitions.append.Goals as goal
 

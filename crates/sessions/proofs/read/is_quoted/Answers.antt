@@ -1,4 +1,4 @@
-use Rattle.std.proofs.Common.{◌≡◌, ℕ, true, false, sym, ◌∙◌, arith, lit<}
+use Rattle.std.proofs.Common.{◌≡◌, ℕ, true, arith, lit<}
 use Rattle.std.proofs.lemmas.Str.Pattern.{contains_char}
 use Rattle.sessions.proofs.read.is_quoted.Goals as goal
 

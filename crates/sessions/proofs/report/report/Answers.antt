@@ -1,5 +1,4 @@
-use Rattle.std.proofs.Common.{length, sym, refl, ap, ◌∙◌, subst, arith}
-use Rattle.sessions.specs.Sessions.{LastRenewed}
+use Rattle.std.proofs.Common.{length, refl, ap, ◌∙◌, arith}
 use Rattle.sessions.proofs.Texts.{nulls_few, report_is}
 use Rattle.sessions.proofs.report.report.Goals as goal
 
