@@ -36,7 +36,7 @@ fn sorted_names<'a>(heap: Global, records: &[Record<'a>]) -> Result<Vec<&'a str>
     for record in records {
         names.push(record.session)?;
     }
-    names.sort()?;
+    names.sort_unstable();
     Ok(names)
 }
 
