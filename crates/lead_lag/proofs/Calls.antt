@@ -164,7 +164,7 @@ module _ {V : Type 0} (e : WindowShift V) (i : ℕ) (w : Window V) (frame : Fram
 
 -- what it leaves then
 pub stepped_by : {V : Type 0} (e : WindowShift V) (i : ℕ) (w : Window V) (frame : Frame) (way : Way) → way ≡ way_of e.shift_offset → (h : Held) → h ≡ held_after way e.ignore_nulls e.held (view w) i → record { shift_offset = e.shift_offset; ignore_nulls = e.ignore_nulls; default_value = e.default_value; held = h } ≡ shift_stepped e i w frame
-stepped_by e i w frame way q h k =
+stepped_by e i w frame u q h k =
     ap (λ (x : Held). record { shift_offset = e.shift_offset; ignore_nulls = e.ignore_nulls; default_value = e.default_value; held = x }) (k ∙ ap (λ (y : Way). held_after y e.ignore_nulls e.held (view w) i) q)
 
 pub turn_leaves : {V A : Type 0} (e e' : WindowShift V) (i j : ℕ) (w v : Window V) (f g : Frame) (r : Result A Fault) → j ≡ i → v ≡ w → e' ≡ left_by r e (shift_stepped e j v g) → e' ≡ left_by r e (shift_stepped e i w f)

@@ -4,9 +4,8 @@ ghost use Rattle.replay.specs.History.{Replayed, history};
 ghost use Rattle.run.specs.declared.run.Run.TheVariants.{Opened, Shut};
 
 use crate::calls::{Call, Entry, Outcome};
-use run::closed::Closed;
 use run::rows::RowEvaluator;
-use run::run::{Open, Run};
+use run::run::{Closed, Open, Run};
 use std::alloc::{AllocError, Global};
 
 fn act_open<E: RowEvaluator>(

@@ -1,6 +1,6 @@
 #![tactic(auto)]
 
-pub mod closed;
+mod closed;
 mod progress;
 pub mod rows;
 pub mod run;

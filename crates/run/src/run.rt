@@ -3,7 +3,7 @@ ghost use Rattle.evaluator.specs.Meaning.{Partition, Alike};
 ghost use Rattle.run.specs.Rows.{left_by};
 ghost use Rattle.run.specs.Run.{Requested, Settled, frame_or_none, closing};
 
-use crate::closed::Closed;
+pub use crate::closed::Closed;
 use crate::progress::{Progress, check, is_total};
 use crate::rows::{RowEvaluator, Turn};
 use column::column::{ROW_LIMIT, Window};
