@@ -1,4 +1,5 @@
 pub mod Cells
+pub mod Sameness
 pub mod Exits
 pub mod Columns
 pub mod Writes

@@ -22,6 +22,27 @@ pub struct Window<'a, K> {
     pub rows: Column<'a, K>,
 }
 
+impl<'a, K> Window<'a, K> {
+    // The rows that the two lists hold, from `begin` on.
+    pub fn new(begin: usize, values: &'a [K], marks: &'a [bool]) -> Window<'a, K>
+        ensures begin { result.begin ≡ begin }
+        ensures values { result.rows.values.now ≡ values.entry.now }
+        ensures marks { result.rows.marks.now ≡ marks.now }
+    {
+        let rows = Column { values, marks };
+        Window { begin, rows }
+    }
+}
+
+// The window that shows all of a column.
+impl<'a, K> From<Column<'a, K>> for Window<'a, K> {
+    ghost from_gives = { λ c w. w ≡ record { begin = 0; rows = c } };
+
+    fn from(rows: Column<'a, K>) -> Window<'a, K> {
+        Window { begin: 0, rows }
+    }
+}
+
 // The mark of a row; past the end false.
 fn is_marked(marks: &[bool], row: usize) -> bool
     ensures { result ≡ slice_index_or marks.now row false }
@@ -73,9 +94,5 @@ impl<K: Kind> Window<'_, K> {
 pub fn same_cell<K: Kind>(a: Option<K>, b: Option<K>) -> bool
     ensures { result ≡ same_cell K.Kind.same a b }
 {
-    match (a, b) {
-        (Some(x), Some(y)) => x.same(&y),
-        (None, None) => true,
-        _ => false,
-    }
+    a == b
 }

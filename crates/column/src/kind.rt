@@ -1,19 +1,19 @@
-ghost use Rattle.std.specs.Prelude.{◌≡◌, Bool, T};
+ghost use Rattle.std.specs.Prelude.{◌≡◌, Bool};
 ghost use Rattle.column.specs.Kinds.{same_instant, same_pseudonym, same_code, same_outcome, same_pair};
 ghost use Rattle.std.proofs.Common.{rules};
 
-// A kind of value: copied exactly, with a test of sameness.
-pub trait Kind: Copy {
+// A kind of value: copied exactly, with a test of sameness that is an equivalence, by the laws of `Eq`.
+pub trait Kind: Copy + Eq {
     ghost same: { Self → Self → Bool };
 
     fn same(&self, other: &Self) -> bool
-        ensures { result ≡ same self.now other.now };
+        ensures { result ≡ same self.now other.now }
+    {
+        self == other
+    }
 
-    ghost reflexive: { (x : Self) → T (same x x) };
-
-    ghost symmetric: { (x y : Self) → T (same x y) → T (same y x) };
-
-    ghost transitive: { (x y z : Self) → T (same x y) → T (same y z) → T (same x z) };
+    // `==` tests sameness
+    ghost tested: { (x y : Self) → Self.PartialEq.eq x y ≡ same x y };
 }
 
 // A point in time.
@@ -23,19 +23,11 @@ pub struct Instant(pub i64);
 impl Kind for Instant {
     ghost same = { same_instant };
 
-    ghost reflexive = { Prim.search rules };
-
-    ghost symmetric = { Prim.search rules };
-
-    ghost transitive = { Prim.search rules };
-
-    fn same(&self, other: &Instant) -> bool {
-        self.0 == other.0
-    }
+    ghost tested = { Prim.search rules };
 }
 
 // Who logged in, without a name.
-#[derive(Clone, Copy)]
+#[derive(Clone, Copy, PartialEq, Eq)]
 pub struct Pseudonym {
     pub high: u64,
     pub low: u64,
@@ -44,37 +36,21 @@ pub struct Pseudonym {
 impl Kind for Pseudonym {
     ghost same = { same_pseudonym };
 
-    ghost reflexive = { Prim.search rules };
-
-    ghost symmetric = { Prim.search rules };
-
-    ghost transitive = { Prim.search rules };
-
-    fn same(&self, other: &Pseudonym) -> bool {
-        self.high == other.high && self.low == other.low
-    }
+    ghost tested = { Prim.search rules };
 }
 
 // A college's code of up to eight bytes, the first byte highest, unused bytes 0.
-#[derive(Clone, Copy)]
+#[derive(Clone, Copy, PartialEq, Eq)]
 pub struct CollegeCode(pub u64);
 
 impl Kind for CollegeCode {
     ghost same = { same_code };
 
-    ghost reflexive = { Prim.search rules };
-
-    ghost symmetric = { Prim.search rules };
-
-    ghost transitive = { Prim.search rules };
-
-    fn same(&self, other: &CollegeCode) -> bool {
-        self.0 == other.0
-    }
+    ghost tested = { Prim.search rules };
 }
 
 // How a login ended.
-#[derive(Clone, Copy)]
+#[derive(Clone, Copy, PartialEq, Eq)]
 pub enum LoginOutcome {
     Granted,
     // with the reason
@@ -85,24 +61,11 @@ pub enum LoginOutcome {
 impl Kind for LoginOutcome {
     ghost same = { same_outcome };
 
-    ghost reflexive = { Prim.search rules };
-
-    ghost symmetric = { Prim.search rules };
-
-    ghost transitive = { Prim.search rules };
-
-    fn same(&self, other: &LoginOutcome) -> bool {
-        match (*self, *other) {
-            (LoginOutcome::Granted, LoginOutcome::Granted) => true,
-            (LoginOutcome::Refused(a), LoginOutcome::Refused(b)) => a == b,
-            (LoginOutcome::TimedOut, LoginOutcome::TimedOut) => true,
-            _ => false,
-        }
-    }
+    ghost tested = { Prim.search rules };
 }
 
 // A value of one kind beside a value of another.
-#[derive(Clone, Copy)]
+#[derive(Clone, Copy, PartialEq, Eq)]
 pub struct Pair<A, B> {
     pub first: A,
     pub second: B,
@@ -111,13 +74,5 @@ pub struct Pair<A, B> {
 impl<A: Kind, B: Kind> Kind for Pair<A, B> {
     ghost same = { same_pair A.Kind.same B.Kind.same };
 
-    ghost reflexive = { Prim.search rules };
-
-    ghost symmetric = { Prim.search rules };
-
-    ghost transitive = { Prim.search rules };
-
-    fn same(&self, other: &Pair<A, B>) -> bool {
-        self.first.same(&other.first) && self.second.same(&other.second)
-    }
+    ghost tested = { Prim.search rules };
 }
