@@ -18,20 +18,14 @@ pub trait Evaluator: Sized {
 
     const WANTS_GROUPS: bool;
 
-    ghost frames: { Bool };
+    // the two constants, as contracts name them
+    ghost WANTS_FRAMES: { Bool };
 
-    ghost groups: { Bool };
+    ghost WANTS_GROUPS: { Bool };
 
     ghost meaning: { Self → Meaning Self.Value Self.Answer };
 
     ghost renewed: { Self → Self };
-
-    // The constants above, as values that contracts can name.
-    fn frames_wanted() -> bool
-        ensures { result ≡ frames };
-
-    fn groups_wanted() -> bool
-        ensures { result ≡ groups };
 
     // An evaluator of the same meaning that stands at row 0 of every partition.
     fn fresh(&self) -> Self
@@ -45,7 +39,7 @@ pub trait Evaluator: Sized {
         rows: &WholePartition<'_, Self::Value>,
         out: &mut O,
     ) -> Result<(), Fault>
-        ensures call { WholeCall O.Output.stored (whole_refusal Self.Value.Kind.same frames groups (input rows.now) (O.Output.size (O.Output.slots out.old))) ((meaning self.now).answer (partition frames (input rows.now))) (row_count (input rows.now)) (O.Output.slots out.old) (O.Output.slots out.new) result }
+        ensures call { WholeCall O.Output.stored (whole_refusal Self.Value.Kind.same WANTS_FRAMES WANTS_GROUPS (input rows.now) (O.Output.size (O.Output.slots out.old))) ((meaning self.now).answer (partition WANTS_FRAMES (input rows.now))) (row_count (input rows.now)) (O.Output.slots out.old) (O.Output.slots out.new) result }
         ensures place { O.Output.place out.old out.new };
 
     ghost lawful: { (e : Self) → Laws (meaning e) };

@@ -13,7 +13,7 @@ pub trait MirrorEvaluator: Evaluator {
     ghost mirrored: { Self → Self };
 
     fn mirror(&self) -> Self
-        ensures { Mirror Self.Value.same Self.Evaluator.frames Self.Evaluator.groups Self.Evaluator.meaning Self.Evaluator.renewed mirrored self.now result };
+        ensures { Mirror Self.Value.same Self.Evaluator.WANTS_FRAMES Self.Evaluator.WANTS_GROUPS Self.Evaluator.meaning Self.Evaluator.renewed mirrored self.now result };
 }
 
 // A mirror's mirror is the evaluator made fresh.
@@ -30,8 +30,8 @@ pub fn evaluate_mirrored<E: MirrorEvaluator + Drop, O: Output<E::Answer>>(
     rows: &WholePartition<'_, E::Value>,
     out: &mut O,
 ) -> Result<(), Fault>
-    ensures call { WholeCall O.Output.stored (whole_refusal E.Value.Kind.same E.Evaluator.frames E.Evaluator.groups (input rows.now) (O.Output.size (O.Output.slots out.old))) ((E.Evaluator.meaning (E.MirrorEvaluator.mirrored evaluator.now)).answer (partition E.Evaluator.frames (input rows.now))) (row_count (input rows.now)) (O.Output.slots out.old) (O.Output.slots out.new) result }
-    ensures turned { (x : Input E.Value) → input rows.now ≡ turned E.Value.Kind.same x → Mirrored O.Output.stored (whole_refusal E.Value.Kind.same E.Evaluator.frames E.Evaluator.groups x (O.Output.size (O.Output.slots out.old))) ((E.Evaluator.meaning evaluator.now).answer (partition E.Evaluator.frames x)) (row_count x) (O.Output.slots out.old) (O.Output.slots out.new) result }
+    ensures call { WholeCall O.Output.stored (whole_refusal E.Value.Kind.same E.Evaluator.WANTS_FRAMES E.Evaluator.WANTS_GROUPS (input rows.now) (O.Output.size (O.Output.slots out.old))) ((E.Evaluator.meaning (E.MirrorEvaluator.mirrored evaluator.now)).answer (partition E.Evaluator.WANTS_FRAMES (input rows.now))) (row_count (input rows.now)) (O.Output.slots out.old) (O.Output.slots out.new) result }
+    ensures turned { (x : Input E.Value) → input rows.now ≡ turned E.Value.Kind.same x → Mirrored O.Output.stored (whole_refusal E.Value.Kind.same E.Evaluator.WANTS_FRAMES E.Evaluator.WANTS_GROUPS x (O.Output.size (O.Output.slots out.old))) ((E.Evaluator.meaning evaluator.now).answer (partition E.Evaluator.WANTS_FRAMES x)) (row_count x) (O.Output.slots out.old) (O.Output.slots out.new) result }
     ensures place { O.Output.place out.old out.new }
 {
     let mirror = evaluator.mirror();

@@ -1,6 +1,11 @@
 -- The lowest place at fault.
-use Rattle.std.proofs.Common.{◌≡◌, ℕ, zero, suc, ◌<◌, ◌≤◌, min, max, Bool, true, false, ltb, Some, None, sym, refl, ap, ◌∙◌, ⊎_elim, arith}
+use Rattle.std.proofs.Common.{◌≡◌, ℕ, zero, suc, ◌+◌, ◌<◌, ◌≤◌, min, max, Bool, true, false, not, ltb, eqb, cond, List, [], ◌∷◌, length, get_or, take, Some, None, sym, refl, ap, ◌∙◌, ⊎_elim, arith}
 use Rattle.std.proofs.lemmas.Bool.{cond-true, cond-false, cases_Bool, cases_lt, lt-ltb, le-ltb}
+use Rattle.std.proofs.lemmas.Bool.Decides.{nat_tests}
+use Rattle.std.proofs.lemmas.List.{length-take-le}
+use Rattle.std.specs.Bool.{then_some}
+use Rattle.std.specs.List.{prefix_len, position}
+use Rattle.std.specs.Option.{option_or}
 use Rattle.partition.specs.Table.{lowest, fault_at}
 
 pub lowest_is : (fault : ℕ → Bool) (n p : ℕ) → p ≤ n → ((k : ℕ) → k < p → fault k ≡ false) → (p < n → fault p ≡ true) → lowest fault n ≡ p
@@ -42,3 +47,29 @@ fault_says fault m n q =
     (λ l. let e : fault_at fault m n ≡ Some (lowest fault (min m n)) = cond-true (ltb (lowest fault (min m n)) (max m n)) _ _ (lt-ltb _ _ l) in let z : ◌≡◌ {A = ℕ} 0 1 = cc in absurd (omega arith))
     (λ l. let e : m ≡ n = omega (arith, s.0) in (e, λ k h. s.1 k (omega arith)))
     (cases_lt (lowest fault (min m n)) (max m n))
+
+-- the first place of a list at which a test passes, of those below m
+lowest_prefix : {X : Type 0} (p : X → Bool) (d : X) (xs : List X) (m : ℕ) → m ≤ length xs → prefix_len (λ x. not (p x)) (take m xs) ≡ lowest (λ i. p (get_or xs i d)) m
+unfolding lowest
+lowest_prefix p d xs zero h = refl
+lowest_prefix p d [] (suc m) h = absurd (omega arith)
+lowest_prefix p d (x ∷ xs) (suc m) h =
+    let i = lowest_prefix p d xs m (omega arith) in
+    ⊎_elim
+    (λ y. cond-false (not (p x)) _ _ (ap not y) ∙ sym (cond-true (p x) _ _ y))
+    (λ z. cond-true (not (p x)) _ _ (ap not z) ∙ (ap (λ k. 1 + k) i ∙ omega arith) ∙ sym (cond-false (p x) _ _ z))
+    (cases_Bool (p x))
+
+-- that place, else the shorter length where the lengths differ
+place_or_length : (a n l : ℕ) → l ≤ min a n → option_or (cond (ltb l (min a n)) (Some l) None) (then_some (not (eqb a n)) (min a n)) ≡ cond (ltb l (max a n)) (Some l) None
+place_or_length a n l h =
+    ⊎_elim
+    (λ lt. ap (λ x. option_or x (then_some (not (eqb a n)) (min a n))) (cond-true (ltb l (min a n)) (Some l) None (lt-ltb l (min a n) lt)) ∙ sym (cond-true (ltb l (max a n)) (Some l) None (lt-ltb l (max a n) (omega arith))))
+    (λ ge. ap (λ x. option_or x (then_some (not (eqb a n)) (min a n))) (cond-false (ltb l (min a n)) (Some l) None (le-ltb l (min a n) ge)) ∙ (let e : l ≡ min a n = omega arith in grind (arith, nat_tests)))
+    (cases_lt l (min a n))
+
+pub fault_found : {X : Type 0} (p : X → Bool) (d : X) (xs : List X) (n rows : ℕ) → rows ≡ min (length xs) n → option_or (position p (take rows xs)) (then_some (not (eqb (length xs) n)) rows) ≡ fault_at (λ i. p (get_or xs i d)) (length xs) n
+fault_found p d xs n rows e =
+    let long : length (take rows xs) ≡ rows = length-take-le rows xs (omega (arith, e)) in
+    let first : prefix_len (λ x. not (p x)) (take rows xs) ≡ lowest (λ i. p (get_or xs i d)) rows = lowest_prefix p d xs rows (omega (arith, e)) in
+    rw (first, long, e) (place_or_length (length xs) n (lowest (λ i. p (get_or xs i d)) (min (length xs) n)) (lowest-says (λ i. p (get_or xs i d)) (min (length xs) n)).0)

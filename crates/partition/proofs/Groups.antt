@@ -74,6 +74,15 @@ module _ {V : Type 0} (same : V → V → Bool) where
       let e : drop k (peers same cs) ≡ continued same (get_or cs s None) s (s + 1) (drop (s + 1) cs) = a.rest ∙ ap (peers_from same s) (drop_more cs s None h) in
       omega (arith, length-drop k (peers same cs), ap length e, continued_some (drop (s + 1) cs) (get_or cs s None) s (s + 1))
 
+  continued_long : (l : List (Option V)) (c : Option V) (s j : ℕ) → length (continued same c s j l) ≤ length l + 1
+  continued_long [] c s j = omega arith
+  continued_long (d ∷ ds) c s j = cond_both (same_cell same c d) (continued same c s (j + 1) ds) ((s, j) ∷ continued same d j (j + 1) ds) (λ gs. length gs ≤ length (d ∷ ds) + 1) (λ y. omega (arith, continued_long ds c s (j + 1))) (λ n. omega (arith, continued_long ds d j (j + 1)))
+
+  -- no more groups than rows
+  pub peers_long : (cs : List (Option V)) → length (peers same cs) ≤ length cs
+  peers_long [] = omega arith
+  peers_long (c ∷ cs) = omega (arith, continued_long cs c 0 1)
+
   -- the groups of any tiling are these
   pub only : (cs : List (Option V)) (s : ℕ) (gs : List Group) → Tiled same cs s gs → gs ≡ peers_from same s (drop s cs)
   only cs s [] t = sym (ap (peers_from same s) (drop_all s cs (omega (arith, t))))

@@ -1,3 +1,4 @@
 pub mod Groups
+pub mod Along
 pub mod Faults
 pub mod Accepted

@@ -21,7 +21,7 @@ pub record Input (V : Type 0) : Type 0 where
 
 -- what the lists of a partition hold
 abbrev pub input : {V : Type 0} → WholePartition V → Input V
-input r = record { values = r.column.values.now; marks = r.column.marks.now; frames = r.frames.list.now; groups = r.groups.list.now }
+input r = record { values = r.column.values.now; marks = r.column.marks.now; frames = r.frames.now; groups = r.groups.now }
 
 -- the number of rows
 abbrev pub row_count : {V : Type 0} → Input V → ℕ

@@ -1,4 +1,5 @@
 #![tactic(auto)]
 
 pub mod peers;
+mod walk;
 pub mod whole;

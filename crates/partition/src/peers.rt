@@ -1,12 +1,28 @@
 ghost use Rattle.std.specs.Prelude.{◌≡◌, ◌<◌, ◌≤◌, length};
+ghost use Rattle.std.specs.Iterator.{YieldsFirst, item_count};
 ghost use Rattle.column.specs.Cells.{column_cells};
 ghost use Rattle.column.specs.Refusal.{passes, yields, kept_or};
 ghost use Rattle.partition.specs.Peers.{IsGroup, PeerLaw};
-ghost use Rattle.partition.specs.Table.{column_groups, groups_fault, differ, places_refusal, grouping_refusal, at_front};
+ghost use Rattle.partition.specs.Walk.{groups_left};
+ghost use Rattle.partition.specs.Table.{column_groups, groups_fault, places_refusal, grouping_refusal, at_front};
 
+use crate::walk::PeerGroups;
 use column::column::{Column, same_cell};
 use column::fault::Fault;
 use column::kind::Kind;
+
+impl<'a, K: Kind> PeerGroups<'a, K> {
+    // All groups of a column that passed its checks.
+    pub(crate) fn of(column: &Column<'a, K>) -> PeerGroups<'a, K>
+        requires { length column.now.values.now ≡ length column.now.marks.now }
+        ensures { groups_left K.Kind.same result ≡ column_groups K.Kind.same column.now }
+    {
+        PeerGroups {
+            column: *column,
+            start: 0,
+        }
+    }
+}
 
 // The end of the peer group that begins at row `start`.
 fn group_end<K: Kind>(column: &Column<'_, K>, start: usize) -> usize
@@ -24,64 +40,37 @@ fn group_end<K: Kind>(column: &Column<'_, K>, start: usize) -> usize
     n
 }
 
-fn differ(a: (usize, usize), b: (usize, usize)) -> bool
-    ensures { result ≡ differ a b }
-{
-    !(a.0 == b.0 && a.1 == b.1)
+impl<K: Kind> Iterator for PeerGroups<'_, K> {
+    type Item = (usize, usize);
+
+    ghost next_gives = { YieldsFirst (groups_left K.Kind.same) };
+
+    ghost remaining = { item_count (groups_left K.Kind.same) };
+
+    fn next(&mut self) -> Option<(usize, usize)> {
+        let start = self.start;
+        if start >= self.column.values.len() {
+            return None;
+        }
+        let end = group_end(&self.column, start);
+        self.start = end;
+        Some((start, end))
+    }
 }
 
-// The place at which a list is not the column's list of peer groups.
+// The place at which a list is not that of the groups.
 pub(crate) fn groups_fault<K: Kind>(
-    column: &Column<'_, K>,
+    mut own: PeerGroups<'_, K>,
     groups: &[(usize, usize)],
 ) -> Option<usize>
-    requires { length column.now.values.now ≡ length column.now.marks.now }
-    ensures { result ≡ groups_fault groups.now (column_groups K.Kind.same column.now) }
+    ensures { result ≡ groups_fault groups.now (groups_left K.Kind.same own.entry) }
 {
-    let n = column.values.len();
-    let mut start = 0;
     for (k, group) in groups.iter().enumerate() {
-        if start >= n {
+        if Some(*group) != own.next() {
             return Some(k);
         }
-        let end = group_end(column, start);
-        if differ(*group, (start, end)) {
-            return Some(k);
-        }
-        start = end;
     }
-    if start < n { Some(groups.len()) } else { None }
-}
-
-fn count_groups<K: Kind>(column: &Column<'_, K>) -> usize
-    requires { length column.now.values.now ≡ length column.now.marks.now }
-    ensures { result ≡ length (column_groups K.Kind.same column.now) }
-{
-    let n = column.values.len();
-    let mut start = 0;
-    let mut count = 0;
-    while start < n {
-        start = group_end(column, start);
-        count += 1;
-    }
-    count
-}
-
-// Writes the peer groups to the front of the list.
-fn write_groups<K: Kind>(column: &Column<'_, K>, groups: &mut [(usize, usize)])
-    requires lengths { length column.now.values.now ≡ length column.now.marks.now }
-    requires room { length (column_groups K.Kind.same column.now) ≤ length groups.old }
-    ensures { groups.new ≡ at_front (column_groups K.Kind.same column.now) groups.old }
-{
-    let n = column.values.len();
-    let mut start = 0;
-    let mut k = 0;
-    while start < n {
-        let end = group_end(column, start);
-        groups[k] = (start, end);
-        start = end;
-        k += 1;
-    }
+    own.next().map(|_| groups.len())
 }
 
 // There is a place for each group.
@@ -94,15 +83,25 @@ fn check_places(count: usize, places: usize) -> Result<(), Fault>
     Ok(())
 }
 
+// Writes the groups to the front of the list.
+fn write_groups<K: Kind>(own: PeerGroups<'_, K>, groups: &mut [(usize, usize)])
+    requires { length (groups_left K.Kind.same own) ≤ length groups.old }
+    ensures { groups.new ≡ at_front (groups_left K.Kind.same own.entry) groups.old }
+{
+    for (k, group) in own.enumerate() {
+        groups[k] = group;
+    }
+}
+
 // The checks in their order, then the groups.
 fn work_out<K: Kind>(column: &Column<'_, K>, groups: &mut [(usize, usize)]) -> Result<usize, Fault>
     ensures result { result ≡ yields (length (column_groups K.Kind.same column.now)) (grouping_refusal K.Kind.same column.now (length groups.old)) }
     ensures list { groups.new ≡ kept_or (grouping_refusal K.Kind.same column.now (length groups.old)) groups.old (at_front (column_groups K.Kind.same column.now) groups.old) }
 {
     column.check()?;
-    let count = count_groups(column);
+    let count = PeerGroups::of(column).count();
     check_places(count, groups.len())?;
-    write_groups(column, groups);
+    write_groups(PeerGroups::of(column), groups);
     Ok(count)
 }
 

@@ -1,32 +1,23 @@
-ghost use Rattle.std.specs.Prelude.{◌≡◌, length, Ok};
+ghost use Rattle.std.specs.Prelude.{◌≡◌, length, position, Ok};
 ghost use Rattle.column.specs.Cells.{column_cells};
 ghost use Rattle.partition.specs.Peers.{PeerLaw};
 ghost use Rattle.column.specs.Refusal.{passes};
 ghost use Rattle.partition.specs.Table.{input, unfit, frames_fault, frames_refusal, groups_refusal, column_groups, whole_refusal, Accepted};
 
 use crate::peers::groups_fault;
+use crate::walk::PeerGroups;
 use column::column::Column;
 use column::fault::Fault;
 use column::kind::Kind;
 
-// A frame for each row, start and end, the end not included; an empty list is absent.
-#[derive(Clone, Copy)]
-pub struct Frames<'a> {
-    pub list: &'a [(usize, usize)],
-}
-
-// The peer groups of a column, each its first row and the row after its last; an empty list is absent.
-#[derive(Clone, Copy)]
-pub struct Groups<'a> {
-    pub list: &'a [(usize, usize)],
-}
-
-// What a call on a whole partition is handed.
+// What a call on a whole partition is handed; an empty list of frames or of groups is absent.
 #[derive(Clone, Copy)]
 pub struct WholePartition<'a, K> {
     pub column: Column<'a, K>,
-    pub frames: Frames<'a>,
-    pub groups: Groups<'a>,
+    // a frame for each row, start and end, the end not included
+    pub frames: &'a [(usize, usize)],
+    // the peer groups of the column, each its first row and the row after its last
+    pub groups: &'a [(usize, usize)],
 }
 
 impl<'a, K> WholePartition<'a, K> {
@@ -40,8 +31,6 @@ impl<'a, K> WholePartition<'a, K> {
         ensures { input result ≡ record { values = values.entry.now; marks = marks.now; frames = frames.now; groups = groups.now } }
     {
         let column = Column { values, marks };
-        let frames = Frames { list: frames };
-        let groups = Groups { list: groups };
         WholePartition {
             column,
             frames,
@@ -58,23 +47,19 @@ fn unfit(n: usize, frame: (usize, usize)) -> bool
     start > end || end > n
 }
 
+// The first frame that does not fit `n` rows.
+fn first_unfit(n: usize, frames: &[(usize, usize)]) -> Option<usize>
+    ensures { result ≡ position (unfit n) frames.now }
+{
+    frames.iter().position(|frame| unfit(n, *frame))
+}
+
 // The place at which a list of frames is not one a row, each fit.
 fn frames_fault(n: usize, frames: &[(usize, usize)]) -> Option<usize>
     ensures { result ≡ frames_fault n frames.now }
 {
-    for (i, frame) in frames.iter().enumerate() {
-        if i >= n {
-            return Some(i);
-        }
-        if unfit(n, *frame) {
-            return Some(i);
-        }
-    }
-    if frames.len() < n {
-        Some(frames.len())
-    } else {
-        None
-    }
+    let rows = frames.len().min(n);
+    first_unfit(n, &frames[..rows]).or((frames.len() != n).then_some(rows))
 }
 
 fn check_frames(n: usize, frames: &[(usize, usize)]) -> Result<(), Fault>
@@ -83,10 +68,7 @@ fn check_frames(n: usize, frames: &[(usize, usize)]) -> Result<(), Fault>
     if frames.is_empty() {
         return Ok(());
     }
-    match frames_fault(n, frames) {
-        Some(row) => Err(Fault::BadFrames(row)),
-        None => Ok(()),
-    }
+    frames_fault(n, frames).map_or(Ok(()), |row| Err(Fault::BadFrames(row)))
 }
 
 fn check_groups<K: Kind>(column: &Column<'_, K>, groups: &[(usize, usize)]) -> Result<(), Fault>
@@ -96,10 +78,10 @@ fn check_groups<K: Kind>(column: &Column<'_, K>, groups: &[(usize, usize)]) -> R
     if groups.is_empty() {
         return Ok(());
     }
-    match groups_fault(column, groups) {
-        Some(group) => Err(Fault::BadGroups(group)),
-        None => Ok(()),
-    }
+    groups_fault(PeerGroups::of(column), groups).map_or(
+        Ok(()),
+        |group| Err(Fault::BadGroups(group)),
+    )
 }
 
 // The checks in their order.
@@ -113,10 +95,10 @@ fn first_fault<K: Kind>(
 {
     partition.column.check()?;
     let n = partition.column.values.len();
-    check_frames(n, partition.frames.list)?;
-    check_groups(&partition.column, partition.groups.list)?;
-    let no_frames = wants_frames && partition.frames.list.is_empty();
-    let no_groups = wants_groups && partition.groups.list.is_empty();
+    check_frames(n, partition.frames)?;
+    check_groups(&partition.column, partition.groups)?;
+    let no_frames = wants_frames && partition.frames.is_empty();
+    let no_groups = wants_groups && partition.groups.is_empty();
     if n > 0 && (no_frames || no_groups) {
         return Err(Fault::Absent(0));
     }

@@ -3,4 +3,4 @@ use Rattle.evaluator.proofs.Calls.{call_fills}
 use Rattle.evaluator.proofs.cells.evaluate_cells.Goals as goal
 
 pub returns : goal.returns
-returns g c = record { call = c.write_cells.ensures; filled = λ e. call_fills g.K.Kind.same g.E.Evaluator.frames g.E.Evaluator.groups (input c.args.rows.now) _ _ _ c.write_cells.result c.write_cells.ensures e }
+returns g c = record { call = c.write_cells.ensures; filled = λ e. call_fills g.K.Kind.same g.E.Evaluator.WANTS_FRAMES g.E.Evaluator.WANTS_GROUPS (input c.args.rows.now) _ _ _ c.write_cells.result c.write_cells.ensures e }

@@ -1,4 +1,5 @@
 use Rattle.column.specs.Cells.{column_cells}
+use Rattle.column.proofs.Sameness.{sameness}
 use Rattle.partition.proofs.Groups.{peer_law}
 use Rattle.partition.proofs.peers.peer_groups.Goals as goal
 
@@ -6,5 +7,5 @@ pub returns : goal.returns
 returns g c = record {
   result = c.work_out.ensures.result;
   list = c.work_out.ensures.list;
-  law = peer_law g.K.Kind.same g.met.K.Kind.reflexive (column_cells c.args.column.now);
+  law = peer_law g.K.Kind.same (sameness g.K.PartialEq.eq g.K.Kind.same g.met.K.Eq.laws g.met.K.Kind.tested).reflexive (column_cells c.args.column.now);
 }
