@@ -4,7 +4,6 @@ use Rattle.std.proofs.lemmas.List.{append_assoc, take_more, length-take-le}
 use Rattle.run.specs.declared.progress.Progress.{Progress}
 use Rattle.replay.specs.declared.calls.Call.{Call}
 use Rattle.replay.specs.declared.calls.Call.TheVariants.{Request, Settle, KeepMark, Close}
-use Rattle.replay.specs.declared.calls.Outcome.{Outcome}
 use Rattle.replay.specs.declared.calls.Entry.{Entry}
 use Rattle.run.specs.declared.run.Run.{Run}
 use Rattle.evaluator.specs.Meaning.{Partition}
@@ -12,7 +11,7 @@ use Rattle.partition.specs.Table.{Frame}
 use Rattle.run.specs.Shown.{end_of, based}
 use Rattle.evaluator.specs.Meaning.{Meaning, Alike, Laws}
 use Rattle.run.specs.Table.{is_total}
-use Rattle.replay.specs.History.{Event, history, answered, accepted, last_frame, frame_of, total_of, total_after, progress_at, Ruled, Shown, AsWhole, Marked, Replayed}
+use Rattle.replay.specs.History.{Outcome, Event, history, answered, accepted, last_frame, frame_of, total_of, total_after, progress_at, Ruled, Shown, AsWhole, Marked, Replayed}
 use Rattle.replay.specs.Act.{Acted, Ended, Does, evaluator_of, progress_of, total_now}
 use Rattle.replay.proofs.Splits.{split_push, never_nil, accepted_push, last_push, total_push, history_push}
 use Rattle.run.proofs.Asks.{Kept}

@@ -8,15 +8,14 @@ use Rattle.column.specs.declared.column.Window.{Window}
 use Rattle.run.specs.declared.progress.Progress.{Progress}
 use Rattle.replay.specs.declared.calls.Call.{Call}
 use Rattle.replay.specs.declared.calls.Call.TheVariants.{Request, Settle, KeepMark, Close}
-use Rattle.replay.specs.declared.calls.Outcome.{Outcome}
-use Rattle.replay.specs.declared.calls.Outcome.TheVariants.{Answer, Refused, Done}
+use Rattle.replay.specs.declared.calls.Reply.TheVariants.{Answer, Done}
 use Rattle.evaluator.specs.Meaning.{Partition}
 use Rattle.partition.specs.Table.{Frame}
 use Rattle.run.specs.Shown.{Framed, FromZero, end_of, frame_at, frame_before, based}
 use Rattle.evaluator.specs.Meaning.{Meaning, Alike, Laws, settles}
 use Rattle.run.specs.Table.{is_total, unfit_total}
 use Rattle.run.specs.Run.{refusal_at, frame_or_none, OutcomeBy, Requested, Settled}
-use Rattle.replay.specs.History.{answered, done, frame_of, total_after, ByTable, close_outcome, Ruled, ShownBy, AsWhole}
+use Rattle.replay.specs.History.{Outcome, answered, done, frame_of, total_after, ByTable, close_outcome, Ruled, ShownBy, AsWhole}
 use Rattle.replay.specs.Act.{noted, noted_done, Does}
 use Rattle.run.proofs.Zeroed.{based_framed, based_ordered, based-from_zero, take-based, at-based}
 use Rattle.run.proofs.Asks.{Fits, Kept, ordered_more, zero_more, fits_here, known_total, asked, Got, got}
@@ -91,7 +90,7 @@ settle_idle : (A : Type 0) (r : Result (Unit {0}) Fault) → answered (noted_don
 settle_idle A (Ok x) = refl
 settle_idle A (Err f) = refl
 
-settle-noted : (A : Type 0) (z : Bool) (f : Fault) → noted_done {A = A} (cond z (Ok tt) (Err f)) ≡ cond z Done (Refused f)
+settle-noted : (A : Type 0) (z : Bool) (f : Fault) → noted_done {A = A} (cond z (Ok tt) (Err f)) ≡ cond z (Ok Done) (Err f)
 settle-noted A true f = refl
 settle-noted A false f = refl
 
@@ -120,7 +119,7 @@ step-settle {V} {A} {S} meaning wants b t e e' b' o d =
     }
 
 -- closing
-cond_idle : (A : Type 0) (x : Bool) (f : Fault) → answered {A = A} (cond x (Refused f) Done) ≡ false
+cond_idle : (A : Type 0) (x : Bool) (f : Fault) → answered {A = A} (cond x (Err f) (Ok Done)) ≡ false
 cond_idle A true f = refl
 cond_idle A false f = refl
 
@@ -179,7 +178,7 @@ kept_more wants p b t f fr q i at fits = record {
 
 -- what a request past the checks has to show, where the row is settled or not
 module _ {V A : Type 0} (m n : Meaning V A) (law : Laws m) (wants : Bool) (p : Partition V) (b : Progress) (t : Option ℕ) (w : Window V) (f : Option Frame) (fr : Framed wants p) (q : Kept p b t) (at : T wants → b.next < length p.rows → f ≡ Some (frame_at p b.next)) (fits : b.next < length p.frames → Fits b (frame_at p b.next)) where
-  stays_ok : (x : A) (s : Bool) → settles m p (end_of w) (is_total t (end_of w)) b.next ≡ s → Got m n p (based b.from_zero p) b.next s (Ok x) → Stays m n wants p b t m.keep (Request w f) (Answer x)
+  stays_ok : (x : A) (s : Bool) → settles m p (end_of w) (is_total t (end_of w)) b.next ≡ s → Got m n p (based b.from_zero p) b.next s (Ok x) → Stays m n wants p b t m.keep (Request w f) (Ok (Answer x))
   stays_ok x true e g =
       let i : b.next < length (take (end_of w) p.rows) = law.below (take (end_of w) p.rows) (take (b.next + 1) p.frames) (is_total t (end_of w)) b.next (subst T (sym e) tt) in
       record {
@@ -193,21 +192,21 @@ module _ {V A : Type 0} (m n : Meaning V A) (law : Laws m) (wants : Bool) (p : P
       }
   stays_ok x false e g = let z : ◌≡◌ {A = ℕ} 0 1 = cc in absurd (omega arith)
 
-  stays_err : (x : Fault) → x ≡ TooEarly b.next → n.stands (based b.from_zero p) b.next → (s : Bool) → settles m p (end_of w) (is_total t (end_of w)) b.next ≡ s → Got m n p (based b.from_zero p) b.next s (Err x) → Stays m n wants p b t m.keep (Request w f) (Refused x)
+  stays_err : (x : Fault) → x ≡ TooEarly b.next → n.stands (based b.from_zero p) b.next → (s : Bool) → settles m p (end_of w) (is_total t (end_of w)) b.next ≡ s → Got m n p (based b.from_zero p) b.next s (Err x) → Stays m n wants p b t m.keep (Request w f) (Err x)
   stays_err x early st true e g = let k = g.0 in let z : ◌≡◌ {A = ℕ} 0 1 = cc in absurd (omega arith)
-  stays_err x early st false e g = idle m n wants p b t m.keep (Request w f) (Refused x) refl q (record {
+  stays_err x early st false e g = idle m n wants p b t m.keep (Request w f) (Err x) refl q (record {
     sized = q.sized;
     stands = st;
     whole = record {
       answer = λ y h. let z : ◌≡◌ {A = ℕ} 0 1 = cc in absurd (omega arith);
       early = λ h k. e;
-      timely = λ h k. ap Refused early;
+      timely = λ h k. ap Err early;
     };
   })
 
 request_stays : {V A S : Type 0} (meaning : S → Meaning V A) (law : (e : S) → Laws (meaning e)) (wants : Bool) (b : Progress) (t : Option ℕ) (w : Window V) (f : Option Frame) (e e' : S) (b' : Progress) (r : Result A Fault) → Requested meaning wants t w f e e' b b' r → (p : Partition V) → Framed wants p → Kept p b t → (meaning e).stands (based b.from_zero p) b.next → ShownBy wants p b.next (Request w f) (noted r) → (ref : Option Fault) → refusal_at wants b t (meaning e).keep w f ≡ ref → OutcomeBy ref wants f e e' b b' r → Stays (meaning e) (meaning e') wants p b t (meaning e).keep (Request w f) (noted r)
 request_stays meaning law wants b t w f e e' b' r a p fr q st sh (Some x) n d =
-    let refused : noted r ≡ Refused x = ap noted d.0 in
+    let refused : noted r ≡ Err x = ap noted d.0 in
     idle (meaning e) (meaning e') wants p b t (meaning e).keep (Request w f) (noted r) (ap answered refused) q (record {
       sized = q.sized;
       stands = subst (λ x. (meaning x).stands (based b.from_zero p) b.next) (sym d.1) st;

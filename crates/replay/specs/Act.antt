@@ -4,8 +4,7 @@ use Rattle.column.specs.declared.fault.Fault.{Fault}
 use Rattle.run.specs.declared.progress.Progress.{Progress}
 use Rattle.replay.specs.declared.calls.Call.{Call}
 use Rattle.replay.specs.declared.calls.Call.TheVariants.{Request, Settle, KeepMark, Close}
-use Rattle.replay.specs.declared.calls.Outcome.{Outcome}
-use Rattle.replay.specs.declared.calls.Outcome.TheVariants.{Answer, Refused, Done, Mark}
+use Rattle.replay.specs.declared.calls.Reply.TheVariants.{Answer, Done, Mark}
 use Rattle.replay.specs.declared.calls.Entry.{Entry}
 use Rattle.run.specs.declared.run.Run.{Run}
 use Rattle.run.specs.declared.run.Run.TheVariants.{Opened, Shut}
@@ -13,7 +12,7 @@ use Rattle.evaluator.specs.Meaning.{Partition, Meaning, Alike}
 use Rattle.run.specs.Rows.{Stepping, Settling}
 use Rattle.run.specs.Run.{Requested, Settled, frame_or_none}
 use Rattle.run.specs.Shown.{based}
-use Rattle.replay.specs.History.{Event, Shown, answered, done, accepted, progress_at, total_of, total_after, close_outcome}
+use Rattle.replay.specs.History.{Outcome, Event, Shown, answered, done, accepted, progress_at, total_of, total_after, close_outcome}
 
 -- the evaluator of a run
 abbrev pub evaluator_of : {S : Type 0} → Run S → S
@@ -28,23 +27,23 @@ progress_of (Shut c) = c.progress
 -- its total, none while it is open
 abbrev pub total_now : {S : Type 0} → Run S → Option ℕ
 total_now (Opened o) = None
-total_now (Shut c) = Some c.total
+total_now (Shut c) = Some c.stage.0
 
 -- what is noted of a request
 abbrev pub noted : {A : Type 0} → Result A Fault → Outcome A
-noted (Ok x) = Answer x
-noted (Err f) = Refused f
+noted (Ok x) = Ok (Answer x)
+noted (Err f) = Err f
 
 -- what is noted of settling
 abbrev pub noted_done : {A : Type 0} → Result (Unit {0}) Fault → Outcome A
-noted_done (Ok x) = Done
-noted_done (Err f) = Refused f
+noted_done (Ok x) = Ok Done
+noted_done (Err f) = Err f
 
 -- what a call does to the evaluator and the progress of a run with this total
 abbrev pub Does : {V A S : Type 0} → (S → Meaning V A) → Bool → Option ℕ → Call V → S → S → Progress → Progress → Outcome A → Type 0
 Does {A = A} meaning wants t (Request w f) e e' b b' o = (r : Result A Fault) × Requested meaning wants t w f e e' b b' r × (o ≡ noted r)
 Does meaning wants t Settle e e' b b' o = (r : Result (Unit {0}) Fault) × Settled meaning wants b e e' r × (o ≡ noted_done r) × (b' ≡ b)
-Does meaning wants t KeepMark e e' b b' o = (o ≡ Mark (meaning e).keep) × (e' ≡ e) × (b' ≡ b)
+Does meaning wants t KeepMark e e' b b' o = (o ≡ Ok (Mark (meaning e).keep)) × (e' ≡ e) × (b' ≡ b)
 Does meaning wants t (Close n) e e' b b' o = (o ≡ close_outcome b t n) × (e' ≡ e) × (b' ≡ b)
 
 -- one call on a run: what is noted, and what it leaves

@@ -1,13 +1,13 @@
 -- The history of a run, and what holds of every one.
-use Rattle.std.specs.Prelude.{◌≡◌, ℕ, ◌+◌, ◌<◌, ◌≤◌, Bool, true, false, cond, ◌&&◌, T, List, [], ◌∷◌, ◌++◌, length, Some, None, Option}
+use Rattle.std.specs.Prelude.{◌≡◌, ℕ, ◌+◌, ◌<◌, ◌≤◌, Bool, true, false, cond, ◌&&◌, T, List, [], ◌∷◌, ◌++◌, length, Some, None, Ok, Err, Option, Result}
 use Rattle.column.specs.declared.fault.Fault.{Fault}
 use Rattle.column.specs.declared.fault.Fault.TheVariants.{TooEarly, NotFromZero, BadTotal}
 use Rattle.column.specs.declared.column.Window.{Window}
 use Rattle.run.specs.declared.progress.Progress.{Progress}
 use Rattle.replay.specs.declared.calls.Call.{Call}
 use Rattle.replay.specs.declared.calls.Call.TheVariants.{Request, Settle, KeepMark, Close}
-use Rattle.replay.specs.declared.calls.Outcome.{Outcome}
-use Rattle.replay.specs.declared.calls.Outcome.TheVariants.{Answer, Refused, Done, Mark, NotTaken}
+use Rattle.replay.specs.declared.calls.Reply.{Reply}
+use Rattle.replay.specs.declared.calls.Reply.TheVariants.{Answer, Done, Mark, NotTaken}
 use Rattle.replay.specs.declared.calls.Entry.{Entry}
 use Rattle.evaluator.specs.Meaning.{Partition}
 use Rattle.partition.specs.Table.{Frame}
@@ -15,6 +15,10 @@ use Rattle.run.specs.Shown.{Shows, Framed, shown, end_of, frame_at, based}
 use Rattle.evaluator.specs.Meaning.{Meaning, Alike, settles}
 use Rattle.run.specs.Table.{is_total, unfit_total}
 use Rattle.run.specs.Run.{refusal_at, frame_or_none}
+
+-- the outcome of a call: what it gives, or why it is refused
+abbrev pub Outcome : Type 0 → Type 0
+Outcome A = Result (Reply A) Fault
 
 -- an event: a call, and what was noted of it (the keep mark that it found, and its outcome)
 abbrev pub Event : Type 0 → Type 0 → Type 0
@@ -28,19 +32,19 @@ history (c ∷ cs) (n ∷ ns) = (c, n) ∷ history cs ns
 
 -- an accepted request
 abbrev pub answered : {A : Type 0} → Outcome A → Bool
-answered (Answer x) = true
-answered (Refused f) = false
-answered Done = false
-answered (Mark n) = false
-answered NotTaken = false
+answered (Ok (Answer x)) = true
+answered (Err f) = false
+answered (Ok Done) = false
+answered (Ok (Mark n)) = false
+answered (Ok NotTaken) = false
 
 -- accepted settling or close
 abbrev pub done : {A : Type 0} → Outcome A → Bool
-done (Answer x) = false
-done (Refused f) = false
-done Done = true
-done (Mark n) = false
-done NotTaken = false
+done (Ok (Answer x)) = false
+done (Err f) = false
+done (Ok Done) = true
+done (Ok (Mark n)) = false
+done (Ok NotTaken) = false
 
 -- the number of accepted requests
 abbrev pub accepted : {V A : Type 0} → List (Event V A) → ℕ
@@ -77,27 +81,27 @@ progress_at wants from_zero before = record { from_zero = from_zero; next = acce
 
 -- past the other checks a request is answered or too early
 abbrev pub Tried : {A : Type 0} → ℕ → Outcome A → Type 0
-Tried i (Answer x) = Unit {0}
-Tried i (Refused f) = f ≡ TooEarly i
-Tried i Done = ⊥
-Tried i (Mark n) = ⊥
-Tried i NotTaken = ⊥
+Tried i (Ok (Answer x)) = Unit {0}
+Tried i (Err f) = f ≡ TooEarly i
+Tried i (Ok Done) = ⊥
+Tried i (Ok (Mark n)) = ⊥
+Tried i (Ok NotTaken) = ⊥
 
 -- refused by this check, or past the checks
 abbrev pub ByTable : {A : Type 0} → Option Fault → ℕ → Outcome A → Type 0
-ByTable (Some f) i o = o ≡ Refused f
+ByTable (Some f) i o = o ≡ Err f
 ByTable None i o = Tried i o
 
 -- what a close comes to; a closed run does not take one
 abbrev pub close_outcome : {A : Type 0} → Progress → Option ℕ → ℕ → Outcome A
-close_outcome b None n = cond (unfit_total b n) (Refused (BadTotal b.next)) Done
-close_outcome b (Some t) n = NotTaken
+close_outcome b None n = cond (unfit_total b n) (Err (BadTotal b.next)) (Ok Done)
+close_outcome b (Some t) n = Ok NotTaken
 
 -- The table: with these progress, this total and this keep mark a call has this outcome.
 abbrev pub Ruled : {V A : Type 0} → Bool → Progress → Option ℕ → ℕ → Call V → Outcome A → Type 0
 Ruled wants b t mark (Request w f) o = ByTable (refusal_at wants b t mark w f) b.next o
-Ruled wants b t mark Settle o = o ≡ cond b.from_zero Done (Refused (NotFromZero b.next))
-Ruled wants b t mark KeepMark o = o ≡ Mark mark
+Ruled wants b t mark Settle o = o ≡ cond b.from_zero (Ok Done) (Err (NotFromZero b.next))
+Ruled wants b t mark KeepMark o = o ≡ Ok (Mark mark)
 Ruled wants b t mark (Close n) o = o ≡ close_outcome b t n
 
 -- A request that was answered or too early at row i shows the partition's rows and, if frames are wanted and the partition has that row, its frame; an accepted close gives its length; what else is refused may show anything.
@@ -115,10 +119,10 @@ pub record Shown {V A : Type 0} (wants : Bool) (p : Partition V) (h : List (Even
 -- Row by row as on the whole partition: what a request gives.
 pub record Right {V A : Type 0} (m : Meaning V A) (p : Partition V) (wants : Bool) (b : Progress) (t : Option ℕ) (mark : ℕ) (w : Window V) (f : Option Frame) (o : Outcome A) : Type 0 where
   -- an accepted request gives the answer of the next row
-  pub answer : (x : A) → o ≡ Answer x → x ≡ m.answer p b.next
+  pub answer : (x : A) → o ≡ Ok (Answer x) → x ≡ m.answer p b.next
   -- a request past all other checks is too early exactly when the row is not settled
-  pub early : refusal_at wants b t mark w f ≡ None → o ≡ Refused (TooEarly b.next) → settles m p (end_of w) (is_total t (end_of w)) b.next ≡ false
-  pub timely : refusal_at wants b t mark w f ≡ None → settles m p (end_of w) (is_total t (end_of w)) b.next ≡ false → o ≡ Refused (TooEarly b.next)
+  pub early : refusal_at wants b t mark w f ≡ None → o ≡ Err (TooEarly b.next) → settles m p (end_of w) (is_total t (end_of w)) b.next ≡ false
+  pub timely : refusal_at wants b t mark w f ≡ None → settles m p (end_of w) (is_total t (end_of w)) b.next ≡ false → o ≡ Err (TooEarly b.next)
 
 -- what each call gives of a partition that is shown
 abbrev pub AsWhole : {V A : Type 0} → Meaning V A → Partition V → Bool → Progress → Option ℕ → ℕ → Call V → Outcome A → Type 0

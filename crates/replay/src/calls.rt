@@ -10,19 +10,18 @@ pub enum Call<'a, K> {
     Close(usize),
 }
 
-// What a call ended in; a closed run does not take a close.
+// What a call that was not refused gives; a closed run does not take a close.
 #[derive(Clone, Copy)]
-pub enum Outcome<A> {
+pub enum Reply<A> {
     Answer(A),
-    Refused(Fault),
     Done,
     Mark(usize),
     NotTaken,
 }
 
-// What is noted of a call: the keep mark that it found, and its outcome.
+// What is noted of a call: the keep mark that it found, and its reply or refusal.
 #[derive(Clone, Copy)]
 pub struct Entry<A> {
     pub mark: usize,
-    pub outcome: Outcome<A>,
+    pub outcome: Result<Reply<A>, Fault>,
 }

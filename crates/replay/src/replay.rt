@@ -3,7 +3,7 @@ ghost use Rattle.replay.specs.Act.{Acted, Ended, Followed, evaluator_after, eval
 ghost use Rattle.replay.specs.History.{Replayed, history};
 ghost use Rattle.run.specs.declared.run.Run.TheVariants.{Opened, Shut};
 
-use crate::calls::{Call, Entry, Outcome};
+use crate::calls::{Call, Entry, Reply};
 use run::rows::RowEvaluator;
 use run::run::{Closed, Open, Run};
 use std::alloc::{AllocError, Global};
@@ -12,76 +12,55 @@ fn act_open<E: RowEvaluator>(
     mut run: Open<E>,
     call: &Call<'_, E::Value>,
 ) -> (Run<E>, Entry<E::Answer>)
-    ensures acted { Acted E.Evaluator.meaning E.Evaluator.frames call.now (Opened run) result.0 result.1 }
+    ensures acted { Acted E.Evaluator.meaning E.Evaluator.WANTS_FRAMES call.now (Opened run) result.0 result.1 }
     ensures leaves { evaluator_of result.0 ≡ evaluator_after E.RowEvaluator.stepped E.RowEvaluator.settling run.progress call.now result.1.outcome run.evaluator }
 {
     let mark = run.keep_mark();
-    match call {
-        Call::Request(window, frame) => {
-            let outcome = match run.request(window, *frame) {
-                Ok(x) => Outcome::Answer(x),
-                Err(f) => Outcome::Refused(f),
+    let outcome = match call {
+        Call::Request(window, frame) => run.request(window, *frame).map(Reply::Answer),
+        Call::Settle => run.settle().map(|_| Reply::Done),
+        Call::KeepMark => Ok(Reply::Mark(mark)),
+        Call::Close(total) => {
+            return match run.close(*total) {
+                Ok(closed) => (
+                    Run::Shut(closed),
+                    Entry {
+                        mark,
+                        outcome: Ok(Reply::Done),
+                    },
+                ),
+                Err((fault, open)) => (
+                    Run::Opened(open),
+                    Entry {
+                        mark,
+                        outcome: Err(fault),
+                    },
+                ),
             };
-            (Run::Opened(run), Entry { mark, outcome })
         }
-        Call::Settle => {
-            let outcome = match run.settle() {
-                Ok(_) => Outcome::Done,
-                Err(f) => Outcome::Refused(f),
-            };
-            (Run::Opened(run), Entry { mark, outcome })
-        }
-        Call::KeepMark => (
-            Run::Opened(run),
-            Entry {
-                mark,
-                outcome: Outcome::Mark(mark),
-            },
-        ),
-        Call::Close(total) => match run.close(*total) {
-            Ok(closed) => (
-                Run::Shut(closed),
-                Entry {
-                    mark,
-                    outcome: Outcome::Done,
-                },
-            ),
-            Err((f, open)) => (
-                Run::Opened(open),
-                Entry {
-                    mark,
-                    outcome: Outcome::Refused(f),
-                },
-            ),
-        },
-    }
+    };
+    (Run::Opened(run), Entry { mark, outcome })
 }
 
 fn act_closed<E: RowEvaluator>(
     mut run: Closed<E>,
     call: &Call<'_, E::Value>,
 ) -> (Run<E>, Entry<E::Answer>)
-    ensures acted { Acted E.Evaluator.meaning E.Evaluator.frames call.now (Shut run) result.0 result.1 }
+    ensures acted { Acted E.Evaluator.meaning E.Evaluator.WANTS_FRAMES call.now (Shut run) result.0 result.1 }
     ensures leaves { evaluator_of result.0 ≡ evaluator_after E.RowEvaluator.stepped E.RowEvaluator.settling run.progress call.now result.1.outcome run.evaluator }
 {
     let mark = run.keep_mark();
     let outcome = match call {
-        Call::Request(window, frame) => match run.request(window, *frame) {
-            Ok(x) => Outcome::Answer(x),
-            Err(f) => Outcome::Refused(f),
-        },
-        Call::Settle => match run.settle() {
-            Ok(_) => Outcome::Done,
-            Err(f) => Outcome::Refused(f),
-        },
-        Call::KeepMark => Outcome::Mark(mark),
-        Call::Close(_) => Outcome::NotTaken,
+        Call::Request(window, frame) => run.request(window, *frame).map(Reply::Answer),
+        Call::Settle => run.settle().map(|_| Reply::Done),
+        Call::KeepMark => Ok(Reply::Mark(mark)),
+        Call::Close(_) => Ok(Reply::NotTaken),
     };
     (Run::Shut(run), Entry { mark, outcome })
 }
 
 fn act<E: RowEvaluator>(run: Run<E>, call: &Call<'_, E::Value>) -> (Run<E>, Entry<E::Answer>)
-    ensures acted { Acted E.Evaluator.meaning E.Evaluator.frames call.now run result.0 result.1 }
+    ensures acted { Acted E.Evaluator.meaning E.Evaluator.WANTS_FRAMES call.now run result.0 result.1 }
     ensures leaves { evaluator_of result.0 ≡ evaluator_after E.RowEvaluator.stepped E.RowEvaluator.settling (progress_of run) call.now result.1.outcome (evaluator_of run) }
 {
     match run {
@@ -104,7 +83,7 @@ pub fn replay<E: RowEvaluator + Drop>(
     from_zero: bool,
     calls: &[Call<'_, E::Value>],
 ) -> Result<Played<E, E::Answer>, AllocError>
-    ensures { IfOk result (λ x. (length x.entries.items ≡ length calls.now) × Replayed E.Evaluator.meaning evaluator.now E.Evaluator.frames from_zero (history calls.now x.entries.items) × Ended E.Evaluator.meaning evaluator.now E.Evaluator.frames from_zero x.run (history calls.now x.entries.items) × Followed (λ e. (E.Evaluator.meaning e).keep) E.RowEvaluator.stepped E.RowEvaluator.settling E.Evaluator.frames from_zero (E.Evaluator.renewed evaluator.now) x.run (history calls.now x.entries.items)) }
+    ensures { IfOk result (λ x. (length x.entries.items ≡ length calls.now) × Replayed E.Evaluator.meaning evaluator.now E.Evaluator.WANTS_FRAMES from_zero (history calls.now x.entries.items) × Ended E.Evaluator.meaning evaluator.now E.Evaluator.WANTS_FRAMES from_zero x.run (history calls.now x.entries.items) × Followed (λ e. (E.Evaluator.meaning e).keep) E.RowEvaluator.stepped E.RowEvaluator.settling E.Evaluator.WANTS_FRAMES from_zero (E.Evaluator.renewed evaluator.now) x.run (history calls.now x.entries.items)) }
 {
     let mut run = Run::Opened(Open::new(evaluator, from_zero));
     let mut entries = Vec::new(heap);

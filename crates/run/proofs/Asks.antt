@@ -1,5 +1,6 @@
 -- A request past the checks, on a run that stands at a partition whose frames are made to begin at 0 where the run is so set.
-use Rattle.std.proofs.Common.{◌≡◌, ℕ, zero, suc, ◌+◌, ◌<◌, ◌≤◌, Bool, true, false, T, List, length, take, Some, None, Ok, Err, Option, Result, sym, refl, ap, ◌∙◌, subst, ⊎_elim, arith, eqb→eq}
+use Rattle.std.proofs.Common.{◌≡◌, ◌==◌, ℕ, zero, suc, ◌+◌, ◌<◌, ◌≤◌, Bool, true, false, T, List, length, take, Some, None, Ok, Err, Option, Result, sym, refl, ap, ◌∙◌, subst, ⊎_elim, arith, eqb→eq}
+use Rattle.std.specs.Option.{option_eq}
 use Rattle.std.proofs.lemmas.Bool.{cases_lt}
 use Rattle.std.proofs.lemmas.Bool.Decides.{nat_tests}
 use Rattle.column.specs.declared.fault.Fault.{Fault}
@@ -118,11 +119,14 @@ handed false b t mark w f n = record {
   inside = λ y k. absurd y;
 }
 
+-- whether a number is the total, as `==` tests it
+pub known_as : (t : Option ℕ) (n : ℕ) → option_eq (λ x y. x == y) (Some n) t ≡ is_total t n
+known_as None n = refl
+known_as (Some k) n = refl
+
 -- the same, by what the calls before it returned
-pub handed_by : {V : Type 0} (wants wants' : Bool) (b : Progress) (t : Option ℕ) (mark mark' : ℕ) (w : Window V) (f : Option Frame) (g : Frame) (known : Bool) (r : Option Fault) → wants' ≡ wants → mark' ≡ mark → r ≡ refusal_at wants' b t mark' w f → r ≡ None → g ≡ frame_or_none f → known ≡ is_total t (end_of w) → Handed wants mark w g known
-handed_by wants wants' b t mark mark' w f g known r ew em er en eg ek =
-    let n : refusal_at wants b t mark w f ≡ None = subst (λ (x : ℕ). refusal_at wants b t x w f ≡ None) em (subst (λ (x : Bool). refusal_at x b t mark' w f ≡ None) ew (sym er ∙ en)) in
-    subst (λ (x : Bool). Handed wants mark w g x) (sym ek) (subst (λ (x : Frame). Handed wants mark w x (is_total t (end_of w))) (sym eg) (handed wants b t mark w f n))
+pub handed_by : {V : Type 0} (wants wants' : Bool) (b : Progress) (t t' : Option ℕ) (mark mark' : ℕ) (w : Window V) (f : Option Frame) (g : Frame) (known : Bool) → wants' ≡ wants → t' ≡ t → mark' ≡ mark → refusal_at wants' b t' mark' w f ≡ None → g ≡ frame_or_none f → known ≡ option_eq (λ x y. x == y) (Some (end_of w)) t' → Handed wants mark w g known
+handed_by wants wants' b t t' mark mark' w f g known ew et em n eg ek = rw (← ew, ← em, eg, ek, known_as t' (end_of w)) (handed wants' b t' mark' w f n)
 
 -- what a passed check, and one that is not, tell
 pub passed : (o : Option Fault) (x : Unit {0}) → Ok x ≡ passes o → o ≡ None
@@ -134,9 +138,9 @@ failed None f e = let z : ◌≡◌ {A = ℕ} 0 1 = cc in absurd (omega arith)
 failed (Some g) f e = cc
 
 -- a request that a check refuses changes nothing
-pub refused_by : {V A S : Type 0} (meaning : S → Meaning V A) (wants wants' : Bool) (b : Progress) (t : Option ℕ) (mark' : ℕ) (w : Window V) (f : Option Frame) (e : S) (x y : Fault) (r : Result A Fault) → wants' ≡ wants → mark' ≡ (meaning e).keep → Err y ≡ passes (refusal_at wants' b t mark' w f) → r ≡ Err x → x ≡ y → Requested meaning wants t w f e e b b r
-refused_by meaning wants wants' b t mark' w f e x y r ew em ey er ex =
-    let n : refusal_at wants b t (meaning e).keep w f ≡ Some y = subst (λ (k : ℕ). refusal_at wants b t k w f ≡ Some y) em (subst (λ (k : Bool). refusal_at k b t mark' w f ≡ Some y) ew (failed (refusal_at wants' b t mark' w f) y ey)) in
+pub refused_by : {V A S : Type 0} (meaning : S → Meaning V A) (wants wants' : Bool) (b : Progress) (t t' : Option ℕ) (mark' : ℕ) (w : Window V) (f : Option Frame) (e : S) (x y : Fault) (r : Result A Fault) → wants' ≡ wants → t' ≡ t → mark' ≡ (meaning e).keep → Err y ≡ passes (refusal_at wants' b t' mark' w f) → r ≡ Err x → x ≡ y → Requested meaning wants t w f e e b b r
+refused_by meaning wants wants' b t t' mark' w f e x y r ew et em ey er ex =
+    let n : refusal_at wants b t (meaning e).keep w f ≡ Some y = rw (← ew, ← et, ← em) (failed (refusal_at wants' b t' mark' w f) y ey) in
     record {
       outcome = subst (λ k. OutcomeBy k wants f e e b b r) (sym n) (er ∙ ap Err ex, refl, refl);
       alike = record { answer = λ p i. refl; settled = λ rows frames known i. refl };

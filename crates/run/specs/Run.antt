@@ -5,8 +5,9 @@ use Rattle.column.specs.declared.fault.Fault.{Fault}
 use Rattle.column.specs.declared.fault.Fault.TheVariants.{TooEarly, NotFromZero, BadTotal, Unanswered}
 use Rattle.column.specs.declared.column.Window.{Window}
 use Rattle.run.specs.declared.progress.Progress.{Progress}
-use Rattle.run.specs.declared.run.Open.{Open}
-use Rattle.run.specs.declared.closed.Closed.{Closed}
+use Rattle.run.specs.declared.run.Running.{Running}
+use Rattle.run.specs.declared.stage.Unclosed.{Unclosed}
+use Rattle.run.specs.declared.stage.Total.{Total}
 use Rattle.evaluator.specs.Meaning.{Partition}
 use Rattle.partition.specs.Table.{Frame}
 use Rattle.run.specs.Shown.{end_of}
@@ -46,9 +47,9 @@ pub record Settled {V A S : Type 0} (meaning : S → Meaning V A) (wants : Bool)
   pub settles : SettleCall meaning wants b.next b.last e e'
 
 -- closing an open run, which is handed back where the total is refused
-abbrev pub closing : {S : Type 0} → Open S → ℕ → Result (Closed S) (Fault × Open S)
-closing o n = cond (unfit_total o.progress n) (Err (BadTotal o.progress.next, o)) (Ok (record { evaluator = o.evaluator; progress = o.progress; total = n }))
+abbrev pub closing : {S : Type 0} → Running S Unclosed → ℕ → Result (Running S Total) (Fault × Running S Unclosed)
+closing o n = cond (unfit_total o.progress n) (Err (BadTotal o.progress.next, o)) (Ok (record { evaluator = o.evaluator; progress = o.progress; stage = record { 0 = n } }))
 
 -- finishing a closed run, which is handed back where rows are unanswered
-abbrev pub finishing : {S : Type 0} → Closed S → Result (S × ℕ) (Fault × Closed S)
-finishing c = cond (c.progress.next == c.total) (Ok (c.evaluator, c.total)) (Err (Unanswered c.progress.next, c))
+abbrev pub finishing : {S : Type 0} → Running S Total → Result (S × ℕ) (Fault × Running S Total)
+finishing c = cond (c.progress.next == c.stage.0) (Ok (c.evaluator, c.stage.0)) (Err (Unanswered c.progress.next, c))

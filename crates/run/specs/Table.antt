@@ -1,5 +1,5 @@
 -- Which check refuses a call on a run, and with which place: the first that fails, from the top.
-use Rattle.std.specs.Prelude.{ℕ, ◌+◌, min, Bool, true, false, cond, not, ◌&&◌, ◌||◌, Some, None, Ok, Err, Option, Result, ◌==◌, nat_lt}
+use Rattle.std.specs.Prelude.{ℕ, ◌+◌, min, Bool, true, false, cond, not, ◌&&◌, ◌||◌, Some, None, Option, ◌==◌, nat_lt}
 use Rattle.column.specs.declared.fault.Fault.{Fault}
 use Rattle.column.specs.declared.fault.Fault.TheVariants.{Lengths, RowLimit, NoFrame, NoRowLeft, BeginsLate, PastTotal, BadFrame}
 use Rattle.run.specs.declared.progress.Progress.{Progress}
@@ -43,11 +43,6 @@ refusal wants b total mark begin values marks frame =
     (cond (above_total total (begin + values)) (Some (PastTotal (bound total)))
     (cond (wants && unfit_frame b total frame) (Some (BadFrame b.next))
     None))))))
-
--- what a check answers, of what it refuses by
-abbrev pub passes : Option Fault → Result (Unit {0}) Fault
-passes None = Ok tt
-passes (Some f) = Err f
 
 -- whether a total may not close a run
 abbrev pub unfit_total : Progress → ℕ → Bool

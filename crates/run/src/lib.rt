@@ -1,6 +1,6 @@
 #![tactic(auto)]
 
-mod closed;
 mod progress;
 pub mod rows;
 pub mod run;
+mod stage;

@@ -1,8 +1,9 @@
 ghost use Rattle.std.specs.Prelude.{◌≡◌, Some};
 ghost use Rattle.column.specs.Refusal.{passes};
-ghost use Rattle.run.specs.Table.{refusal, unfit_frame, is_total};
+ghost use Rattle.run.specs.Table.{unfit_frame};
+ghost use Rattle.run.specs.Run.{refusal_at};
 
-use column::column::ROW_LIMIT;
+use column::column::{ROW_LIMIT, Window};
 use column::fault::Fault;
 
 // What a run remembers of its requests: its setting, the next row and the last wanted frame.
@@ -13,75 +14,62 @@ pub struct Progress {
     pub last: (usize, usize),
 }
 
-pub(crate) fn is_total(total: Option<usize>, n: usize) -> bool
-    ensures { result ≡ is_total total n }
-{
-    match total {
-        Some(t) => n == t,
-        None => false,
+impl Progress {
+    // Whether a frame that is there may not come next.
+    fn unfit(&self, total: Option<usize>, frame: (usize, usize)) -> bool
+        ensures { result ≡ unfit_frame self.now total (Some frame) }
+    {
+        let (start, end) = frame;
+        let (last_start, last_end) = self.last;
+        start > end
+            || end > total.unwrap_or(ROW_LIMIT)
+            || start < last_start
+            || end < last_end
+            || (self.from_zero && start > 0)
     }
-}
 
-// Whether a frame that is there may not come next.
-fn unfit(progress: Progress, total: Option<usize>, frame: (usize, usize)) -> bool
-    ensures { result ≡ unfit_frame progress total (Some frame) }
-{
-    let bound = match total {
-        Some(t) => t,
-        None => ROW_LIMIT,
-    };
-    let (start, end) = frame;
-    let (last_start, last_end) = progress.last;
-    start > end
-        || end > bound
-        || start < last_start
-        || end < last_end
-        || (progress.from_zero && start > 0)
-}
-
-// The first check of a row request that fails, but for the last check.
-pub(crate) fn check(
-    wants: bool,
-    progress: Progress,
-    total: Option<usize>,
-    mark: usize,
-    begin: usize,
-    values: usize,
-    marks: usize,
-    frame: Option<(usize, usize)>,
-) -> Result<(), Fault>
-    ensures { result ≡ passes (refusal wants progress total mark begin values marks frame) }
-{
-    if wants && frame.is_none() {
-        return Err(Fault::NoFrame(progress.next));
-    }
-    if let Some(t) = total
-        && progress.next == t
+    // The first check of a row request that fails, but for the last check.
+    pub(crate) fn check<K>(
+        &self,
+        wants: bool,
+        total: Option<usize>,
+        mark: usize,
+        window: &Window<'_, K>,
+        frame: Option<(usize, usize)>,
+    ) -> Result<(), Fault>
+        ensures { result ≡ passes (refusal_at wants self.now total mark window.now frame) }
     {
-        return Err(Fault::NoRowLeft(t));
+        if wants && frame.is_none() {
+            return Err(Fault::NoFrame(self.next));
+        }
+        if let Some(t) = total
+            && self.next == t
+        {
+            return Err(Fault::NoRowLeft(t));
+        }
+        let values = window.rows.values.len();
+        let marks = window.rows.marks.len();
+        if values != marks {
+            return Err(Fault::Lengths(values.min(marks)));
+        }
+        let end = window.begin.saturating_add(values);
+        if end > ROW_LIMIT {
+            return Err(Fault::RowLimit(ROW_LIMIT));
+        }
+        if window.begin > mark {
+            return Err(Fault::BeginsLate(mark));
+        }
+        if let Some(t) = total
+            && end > t
+        {
+            return Err(Fault::PastTotal(t));
+        }
+        if let Some(f) = frame
+            && wants
+            && self.unfit(total, f)
+        {
+            return Err(Fault::BadFrame(self.next));
+        }
+        Ok(())
     }
-    if values != marks {
-        return Err(Fault::Lengths(values.min(marks)));
-    }
-    let Some(end) = begin.checked_add(values) else {
-        return Err(Fault::RowLimit(ROW_LIMIT));
-    };
-    if end > ROW_LIMIT {
-        return Err(Fault::RowLimit(ROW_LIMIT));
-    }
-    if begin > mark {
-        return Err(Fault::BeginsLate(mark));
-    }
-    if let Some(t) = total
-        && end > t
-    {
-        return Err(Fault::PastTotal(t));
-    }
-    if let Some(f) = frame
-        && wants
-        && unfit(progress, total, f)
-    {
-        return Err(Fault::BadFrame(progress.next));
-    }
-    Ok(())
 }

@@ -1,4 +1,6 @@
-ghost use Rattle.std.specs.Prelude.{◌≡◌};
+ghost use Rattle.std.specs.Prelude.{◌≡◌, ◌≤◌};
+ghost use Rattle.column.specs.Refusal.{row_limit};
+ghost use Rattle.run.specs.Shown.{end_of};
 ghost use Rattle.run.specs.Rows.{Stepping, Settling, left_by, Handed, RowCall, SettleCall};
 
 use column::column::Window;
@@ -7,12 +9,13 @@ use column::kind::Kind;
 use evaluator::evaluator::Evaluator;
 
 // What a run hands to a row call, once its checks have passed; only runs can make one.
-#[derive(Clone, Copy)]
+#[derive(Drop)]
 pub struct Turn<'a, K> {
     pub(crate) next: usize,
     pub(crate) window: Window<'a, K>,
     pub(crate) frame: (usize, usize),
     pub(crate) known: bool,
+    ghost limited: { end_of window ≤ row_limit },
 }
 
 impl<'a, K: Kind> Turn<'a, K> {
@@ -28,6 +31,14 @@ impl<'a, K: Kind> Turn<'a, K> {
         ensures { result ≡ self.now.window }
     {
         self.window
+    }
+
+    // The row after the last that is shown.
+    pub fn end(&self) -> usize
+        ensures { result ≡ end_of self.now.window }
+    {
+        let Window { begin, rows } = self.window;
+        begin + rows.values.len()
     }
 
     // The frame of the row, (0, 0) where frames are not wanted.
@@ -53,13 +64,13 @@ pub trait RowEvaluator: Evaluator {
     ghost settling: { Settling Self };
 
     fn row(&mut self, turn: &Turn<'_, Self::Value>) -> Result<Self::Answer, Fault>
-        requires { Handed Self.Evaluator.frames (Self.Evaluator.meaning self.old).keep turn.now.window turn.now.frame turn.now.known }
-        ensures call { RowCall Self.Evaluator.meaning Self.Evaluator.frames turn.now.next turn.now.window turn.now.frame turn.now.known self.old self.new result }
+        requires { Handed Self.Evaluator.WANTS_FRAMES (Self.Evaluator.meaning self.old).keep turn.now.window turn.now.frame turn.now.known }
+        ensures call { RowCall Self.Evaluator.meaning Self.Evaluator.WANTS_FRAMES turn.now.next turn.now.window turn.now.frame turn.now.known self.old self.new result }
         ensures leaves { self.new ≡ left_by result self.old (stepped self.old turn.now.next turn.now.window turn.now.frame) };
 
     // Settles what is known of the rows answered, the last of them with this frame.
     fn settle(&mut self, next: usize, last: (usize, usize))
-        ensures call { SettleCall Self.Evaluator.meaning Self.Evaluator.frames next last self.old self.new }
+        ensures call { SettleCall Self.Evaluator.meaning Self.Evaluator.WANTS_FRAMES next last self.old self.new }
         ensures leaves { self.new ≡ settling self.old next last };
 
     // The lowest row that may still be read.
