@@ -7,7 +7,7 @@ use Rattle.rank.specs.declared.rank.RankType.{RankType}
 use Rattle.rank.specs.declared.rank.RankType.TheVariants.{Basic, Dense}
 use Rattle.rank.specs.Groups.{group_number, group_at}
 use Rattle.rank.specs.Laws.{RankLaw, rank_of}
-use Rattle.rank.specs.Steps.{group_law, first_number, first_row, same_number, next_number, goes_on, goes_off}
+use Rattle.rank.proofs.Steps.{group_law, first_number, first_row, same_number, next_number, goes_on, goes_off}
 
 module _ {V : Type 0} (same : V → V → Bool) (self : (x : V) → T (same x x)) (symmetric : (x y : V) → T (same x y) → T (same y x)) (transitive : (x y z : V) → T (same x y) → T (same y z) → T (same x z)) where
   both : (a b : Bool) → (T a → T b) → (T b → T a) → a ≡ b

@@ -1,7 +1,7 @@
 use Rattle.std.proofs.Common.{◌≡◌, ℕ, ◌+◌, length, get_or, sym, refl, ap, ◌∙◌, subst, add-one, arith}
 use Rattle.column.proofs.Writes.{Written, none_written, one_more}
 use Rattle.rank.specs.Groups.{graded_by}
-use Rattle.rank.specs.Covers.{start_at, starts, past_last, placed, within}
+use Rattle.rank.proofs.Covers.{start_at, starts, past_last, placed, within}
 use Rattle.rank.proofs.graded.write_graded.Goals as goal
 
 pub loop-number-init : goal.loop-number-init

@@ -1,6 +1,6 @@
 use Rattle.column.proofs.Writes.{Written}
 use Rattle.rank.specs.Groups.{graded_by}
-use Rattle.rank.specs.Covers.{start_at}
+use Rattle.rank.proofs.Covers.{start_at}
 use Rattle.rank.proofs.graded.write_graded.Given as goal
 
 -- the rows before group `number` are written

@@ -1,7 +1,7 @@
 use Rattle.std.proofs.Common.{sym, refl, ap, ◌∙◌}
 use Rattle.run.proofs.Unframed.{handed_turn, turn_call}
 use Rattle.rank.specs.Ranks.{rank_meaning, state_after}
-use Rattle.rank.specs.RanksLemmas.{early, ranks, stepped_by}
+use Rattle.rank.proofs.RankRows.{early, ranks, stepped_by}
 use Rattle.rank.proofs.rank.RankRowEvaluator.row.Goals as goal
 
 pub returns-then-not-reaches : goal.returns-then-not-reaches

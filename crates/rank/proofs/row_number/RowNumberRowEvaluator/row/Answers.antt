@@ -1,7 +1,7 @@
 use Rattle.std.proofs.Common.{sym, refl, ◌∙◌}
 use Rattle.run.proofs.Unframed.{handed_turn, turn_call}
 use Rattle.rank.specs.Numbers.{row_number_meaning}
-use Rattle.rank.specs.NumbersLemmas.{early, numbers, stepped_by}
+use Rattle.rank.proofs.NumberRows.{early, numbers, stepped_by}
 use Rattle.rank.proofs.row_number.RowNumberRowEvaluator.row.Goals as goal
 
 pub returns-then-not-reaches : goal.returns-then-not-reaches

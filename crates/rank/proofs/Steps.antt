@@ -10,8 +10,7 @@ use Rattle.rank.specs.declared.state.RankState.{RankState}
 use Rattle.rank.specs.Groups.{group_number, group_at, Covers}
 use Rattle.rank.specs.Laws.{GroupLaw}
 use Rattle.rank.specs.Ranks.{state_at, one_more, state_after}
-use Rattle.rank.specs.Covers.{start_at, past_last, Placed, placed}
-use Rattle.rank.specs.Whole.{tiled_covers}
+use Rattle.rank.proofs.Covers.{start_at, past_last, Placed, placed, tiled_covers}
 
 -- the group of row i holds it
 record Lies (gs : List Group) (i k : ℕ) : Type 0 where

@@ -1,9 +1,9 @@
 -- Groups that cover the rows, one by one.
-use Rattle.std.specs.Prelude.{◌≡◌, ℕ, zero, suc, ◌+◌, ◌<◌, ◌≤◌, List, [], ◌∷◌, length, get_or, nat_lt, slice_index_or, refl}
+use Rattle.std.specs.Prelude.{◌≡◌, ℕ, zero, suc, ◌+◌, ◌<◌, ◌≤◌, Bool, List, [], ◌∷◌, Option, length, get_or, nat_lt, slice_index_or, refl}
 use Rattle.std.proofs.Common.{sym, ◌∙◌, ap, subst, arith}
 use Rattle.std.proofs.lemmas.Bool.{cond-true, cond-false, lt-ltb, le-ltb}
 use Rattle.column.specs.Refusal.{row_limit}
-use Rattle.partition.specs.Peers.{Group}
+use Rattle.partition.specs.Peers.{Group, Tiled}
 use Rattle.rank.specs.Groups.{group_number, Covers, Within}
 
 -- the row at which group k begins; past the last group n
@@ -59,3 +59,8 @@ pub within : (gs : List Group) (n k : ℕ) → Covers 0 gs n → n ≤ row_limit
 within gs n k c m h g e =
     let p = placed gs 0 n k c h in
     subst (λ (x : Group). Within k x n) (sym e) (record { number = omega (arith, p.number); nonempty = p.nonempty; inside = p.inside; limited = m })
+
+-- groups that tile the rows cover them
+pub tiled_covers : {V : Type 0} (same : V → V → Bool) (cs : List (Option V)) (gs : List Group) (s : ℕ) → Tiled same cs s gs → Covers s gs (length cs)
+tiled_covers same cs [] s t = t
+tiled_covers same cs (g ∷ gs) s t = (t.0, t.1.nonempty, tiled_covers same cs gs g.1 t.2)
