@@ -1,6 +1,6 @@
 -- Groups that cover the rows, one by one.
 use Rattle.std.specs.Prelude.{◌≡◌, ℕ, zero, suc, ◌+◌, ◌<◌, ◌≤◌, Bool, List, [], ◌∷◌, Option, length, get_or, nat_lt, slice_index_or, refl}
-use Rattle.std.proofs.Common.{sym, ◌∙◌, ap, subst, arith}
+use Rattle.std.proofs.Common.{sym, ◌∙◌, ap, arith}
 use Rattle.std.proofs.lemmas.Bool.{cond-true, cond-false, lt-ltb, le-ltb}
 use Rattle.column.specs.Refusal.{row_limit}
 use Rattle.partition.specs.Peers.{Group, Tiled}
@@ -55,10 +55,8 @@ placed (g ∷ gs) s n (suc k) c h =
     }
 
 -- what the answer of a group needs of it
-pub within : (gs : List Group) (n k : ℕ) → Covers 0 gs n → n ≤ row_limit → k < length gs → (g : Group) → g ≡ slice_index_or gs k (0, 0) → Within k g n
-within gs n k c m h g e =
-    let p = placed gs 0 n k c h in
-    subst (λ (x : Group). Within k x n) (sym e) (record { number = omega (arith, p.number); nonempty = p.nonempty; inside = p.inside; limited = m })
+pub within : (gs : List Group) (n k : ℕ) → Covers 0 gs n → n ≤ row_limit → k < length gs → Within k (slice_index_or gs k (0, 0)) n
+within gs n k c m h = let p = placed gs 0 n k c h in record { number = omega (arith, p.number); nonempty = p.nonempty; inside = p.inside; limited = m }
 
 -- groups that tile the rows cover them
 pub tiled_covers : {V : Type 0} (same : V → V → Bool) (cs : List (Option V)) (gs : List Group) (s : ℕ) → Tiled same cs s gs → Covers s gs (length cs)

@@ -40,10 +40,9 @@ fn write_graded<G: Graded, O: Output<G::Grade>>(
     ensures slots { O.Output.slots out.new ≡ written O.Output.stored (graded_by (G.Graded.graded function.now) groups.now rows) (O.Output.slots out.old) rows }
     ensures place { O.Output.place out.old out.new }
 {
-    for (number, group) in groups.iter().enumerate() {
-        let (start, end) = *group;
-        let grade = function.grade(number, (start, end), rows);
-        for row in start..end {
+    for (number, &group) in groups.iter().enumerate() {
+        let grade = function.grade(number, group, rows);
+        for row in group.0..group.1 {
             out.put(row, grade);
         }
     }
