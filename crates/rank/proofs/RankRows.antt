@@ -1,15 +1,15 @@
 -- The row call of RANK and DENSE_RANK.
-use Rattle.std.specs.Prelude.{◌≡◌, ℕ, zero, suc, ◌+◌, ◌<◌, ◌≤◌, Bool, true, false, T, List, length, take, None, Ok, Option, nat_lt, slice_index_or, refl}
-use Rattle.std.proofs.Common.{sym, ◌∙◌, ap, subst, arith, add-one, rules}
+use Rattle.std.specs.Prelude.{◌≡◌, ℕ, zero, suc, ◌+◌, ◌<◌, ◌≤◌, Bool, true, false, T, List, length, None, Ok, Option, nat_lt, slice_index_or, refl}
+use Rattle.std.proofs.Common.{◌∙◌, ap, arith, add-one, rules}
 use Rattle.std.proofs.lemmas.Bool.Decides.{nat_tests}
-use Rattle.std.proofs.lemmas.Bool.{lt-ltb, ltb-true}
+use Rattle.std.proofs.lemmas.Bool.{ltb-true}
 use Rattle.column.specs.declared.column.Window.{Window}
 use Rattle.column.specs.Cells.{view}
 use Rattle.column.specs.Refusal.{row_limit}
 use Rattle.partition.specs.Table.{Frame}
 use Rattle.run.specs.Shown.{end_of}
 use Rattle.run.specs.Rows.{Handed, RowCall}
-use Rattle.run.proofs.Seen.{seen_rows, seen_within, seen_view, given_ok}
+use Rattle.run.proofs.Seen.{seen_rows, seen_within, seen_view}
 use Rattle.rank.specs.declared.rank.RankType.{RankType}
 use Rattle.rank.specs.declared.rank.RankType.TheVariants.{Basic, Dense}
 use Rattle.rank.specs.declared.rank.Rank.{Rank}
@@ -35,16 +35,17 @@ module _ {V : Type 0} (same : V → V → Bool) where
     pub ranks : (e : Rank V) (i : ℕ) (w : Window V) (frame : Frame) (known : Bool) → Handed false e.state.next w frame known → nat_lt i (end_of w) ≡ true → (s : RankState V) → s ≡ state_after same e.state (view w i) i → (x : ℕ) → x ≡ rank_held e.rank_type s → RowCall (rank_meaning same) false i w frame known e (record { rank_type = e.rank_type; state = s }) (Ok x)
     ranks e i w frame known h u s es x ex =
         let l : i < end_of w = ltb-true i (end_of w) u in
-        let e' : Rank V = record { rank_type = e.rank_type; state = s } in
         record {
           alike = search rules;
-          mark = subst (λ (t : RankState V). e.state.next ≤ t.next) (sym es) (mark_rises e.state (view w i) i);
+          mark = rw es (mark_rises e.state (view w i) i);
           outcome = l;
           given = λ p q.
               let n : e.state.next ≡ i = ap (λ (t : RankState V). t.next) q.stands ∙ next_at p.rows i in
               let in_rows : i < length p.rows = omega (arith, seen_within (rank_meaning same e) false e.state.next i w frame known h p q) in
               let low : i < row_limit = omega (arith, h.limited) in
               let cell : view w i ≡ slice_index_or p.rows i None = seen_view (rank_meaning same e) false e.state.next i w frame known h p q i (omega (arith, h.kept)) l in
-              let on : s ≡ state_at same p.rows (i + 1) = es ∙ (ap (λ (t : RankState V). state_after same t (view w i) i) q.stands ∙ (ap (λ (c : Option V). state_after same (state_at same p.rows i) c i) cell ∙ state_on same self p.rows i in_rows low)) in
-              given_ok (rank_meaning same e) (rank_meaning same e') p i _ x (lt-ltb i (length (take (end_of w) p.rows)) (omega (arith, seen_rows (rank_meaning same e) false e.state.next i w frame known h p q))) (ex ∙ (ap (rank_held e.rank_type) (on ∙ ap (state_at same p.rows) (add-one i)) ∙ held_answer e.rank_type p.rows i in_rows low)) on;
+              let on : s ≡ state_at same p.rows (i + 1) = rw (es, q.stands, cell) (state_on same self p.rows i in_rows low) in
+              let a : x ≡ graded (rank_graded e.rank_type) same p.rows i = rw (ex, on, add-one) (held_answer e.rank_type p.rows i in_rows low) in
+              let r = seen_rows (rank_meaning same e) false e.state.next i w frame known h p q in
+              search (rules, nat_tests);
         }
