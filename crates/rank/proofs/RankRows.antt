@@ -1,8 +1,7 @@
 -- The row call of RANK and DENSE_RANK.
-use Rattle.std.specs.Prelude.{◌≡◌, ℕ, zero, suc, ◌+◌, ◌<◌, ◌≤◌, Bool, true, false, T, List, length, None, Ok, Option, nat_lt, slice_index_or, refl}
+use Rattle.std.specs.Prelude.{◌≡◌, ℕ, zero, suc, ◌+◌, ◌<◌, ◌≤◌, Bool, false, T, List, length, None, Ok, Option, slice_index_or, refl}
 use Rattle.std.proofs.Common.{◌∙◌, ap, arith, add-one, rules}
 use Rattle.std.proofs.lemmas.Bool.Decides.{nat_tests}
-use Rattle.std.proofs.lemmas.Bool.{ltb-true}
 use Rattle.column.specs.declared.column.Window.{Window}
 use Rattle.column.specs.Cells.{view}
 use Rattle.column.specs.Refusal.{row_limit}
@@ -32,9 +31,8 @@ module _ {V : Type 0} (same : V → V → Bool) where
     held_answer Basic rows i h m = omega (arith, (group_law same self rows).begins i h)
     held_answer Dense rows i h m = refl
 
-    pub ranks : (e : Rank V) (i : ℕ) (w : Window V) (frame : Frame) (known : Bool) → Handed false e.state.next w frame known → nat_lt i (end_of w) ≡ true → (s : RankState V) → s ≡ state_after same e.state (view w i) i → (x : ℕ) → x ≡ rank_held e.rank_type s → RowCall (rank_meaning same) false i w frame known e (record { rank_type = e.rank_type; state = s }) (Ok x)
-    ranks e i w frame known h u s es x ex =
-        let l : i < end_of w = ltb-true i (end_of w) u in
+    pub ranks : (e : Rank V) (i : ℕ) (w : Window V) (frame : Frame) (known : Bool) → Handed false e.state.next w frame known → i < end_of w → (s : RankState V) → s ≡ state_after same e.state (view w i) i → (x : ℕ) → x ≡ rank_held e.rank_type s → RowCall (rank_meaning same) false i w frame known e (record { rank_type = e.rank_type; state = s }) (Ok x)
+    ranks e i w frame known h l s es x ex =
         record {
           alike = search rules;
           mark = rw es (mark_rises e.state (view w i) i);

@@ -8,7 +8,7 @@ ghost use Rattle.rank.specs.RanksLemmas.{rank_lawful};
 
 use crate::fractions::{Fraction, Fractions};
 use crate::graded::{Graded, evaluate_graded, fraction};
-use crate::shown::reaches;
+use crate::shown::row_shown;
 use crate::state::RankState;
 use column::fault::Fault;
 use column::kind::Kind;
@@ -116,12 +116,8 @@ impl<K: Kind> RowEvaluator for Rank<K> {
     ghost settling = { rank_settling };
 
     fn row(&mut self, turn: &Turn<'_, K>) -> Result<u64, Fault> {
-        let next = turn.next();
-        let window = turn.window();
-        if !reaches(&window, next) {
-            return Err(Fault::TooEarly(next));
-        }
-        self.state.step(next, window.cell(next));
+        let next = row_shown(turn)?;
+        self.state.step(next, turn.window().cell(next));
         Ok(self.rank())
     }
 

@@ -6,7 +6,7 @@ ghost use Rattle.column.specs.Slots.{written};
 ghost use Rattle.rank.specs.Numbers.{row_number_meaning, new_row_number, row_number_stepped, row_number_settling};
 ghost use Rattle.rank.specs.NumbersLemmas.{row_number_lawful};
 
-use crate::shown::reaches;
+use crate::shown::row_shown;
 use column::fault::Fault;
 use column::kind::Kind;
 use column::output::Output;
@@ -105,11 +105,7 @@ impl<K: Kind> RowEvaluator for RowNumber<K> {
     ghost settling = { row_number_settling };
 
     fn row(&mut self, turn: &Turn<'_, K>) -> Result<u64, Fault> {
-        let next = turn.next();
-        let window = turn.window();
-        if !reaches(&window, next) {
-            return Err(Fault::TooEarly(next));
-        }
+        let next = row_shown(turn)?;
         self.n_rows = self.n_rows.max(next + 1);
         Ok(row_number(next))
     }
