@@ -1,6 +1,6 @@
 -- What RANK and DENSE_RANK hold, one row on.
 use Rattle.std.specs.Prelude.{◌≡◌, ℕ, zero, suc, ◌+◌, ◌<◌, ◌≤◌, refl, max, Bool, true, false, T, List, [], ◌∷◌, length, get_or, None, Option, slice_index_or}
-use Rattle.std.proofs.Common.{ap, ⊎_elim, arith, add-one}
+use Rattle.std.proofs.Common.{⊎_elim, arith, add-one}
 use Rattle.std.proofs.lemmas.Bool.{cases_lt, lt-ltb, le-ltb}
 use Rattle.column.specs.Cells.{same_cell}
 use Rattle.column.specs.Refusal.{row_limit}
@@ -9,7 +9,7 @@ use Rattle.partition.proofs.Groups.{tiled}
 use Rattle.rank.specs.Groups.{group_number, group_at, Covers}
 use Rattle.rank.specs.Laws.{GroupLaw}
 use Rattle.rank.specs.Ranks.{state_at, one_more, state_after}
-use Rattle.rank.proofs.Covers.{start_at, past_last, Placed, placed, tiled_covers}
+use Rattle.rank.proofs.Covers.{past_last, Placed, placed, tiled_covers}
 
 -- the group of row i holds it
 record Lies (gs : List Group) (i k : ℕ) : Type 0 where
@@ -76,7 +76,8 @@ module _ {V : Type 0} (same : V → V → Bool) (self : (x : V) → T (same x x)
     pub next_number : g.1 ≡ suc j → (group_number groups (suc j) ≡ suc k) × ((get_or groups (suc k) (0, 0)).0 ≡ suc j)
     next_number q =
         let p = place k at.counted in
-        let more : suc k < length groups = ⊎_elim (λ l. l) (λ l. let z : suc k ≡ length groups = omega (arith, at.counted) in absurd (omega (arith, p.ends, ap (start_at groups (length rows)) z, past_last groups (length rows)))) (cases_lt (suc k) (length groups)) in
+        let z = past_last groups (length rows) in
+        let more : suc k < length groups = grind (arith, p.ends, at.counted) in
         let r = place (suc k) more in
         let b : (get_or groups (suc k) (0, 0)).0 ≡ suc j = omega (arith, r.begins, p.ends) in
         (r.holds (suc j) (omega arith) (omega (arith, r.nonempty)), b)

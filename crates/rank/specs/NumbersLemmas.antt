@@ -1,4 +1,4 @@
--- ROW_NUMBER: its laws, and its row call.
+-- ROW_NUMBER: its laws.
 use Rattle.std.specs.Prelude.{refl}
 use Rattle.std.proofs.Common.{arith}
 use Rattle.std.proofs.lemmas.List.{length-append}
@@ -11,6 +11,6 @@ pub row_number_lawful : {V : Type 0} (e : RowNumber V) → Laws (row_number_mean
 row_number_lawful e = record {
   below = λ rows frames known i h. grind (arith, nat_tests);
   at_total = λ rows frames i h. grind (arith, nat_tests);
-  grows = λ rows more frames i h. let l = length-append rows more in grind (arith, nat_tests);
+  grows = λ rows more frames i h. grind (arith, nat_tests, length-append);
   local = λ p q a known i er ef len h. refl;
 }

@@ -1,5 +1,5 @@
--- RANK and DENSE_RANK: their laws, and their row call.
-use Rattle.std.specs.Prelude.{◌≡◌, ℕ, ◌+◌, ◌<◌, Bool, List, length, take, Option}
+-- RANK and DENSE_RANK: their laws.
+use Rattle.std.specs.Prelude.{◌≡◌, ℕ, ◌+◌, Bool, List, Option}
 use Rattle.std.proofs.Common.{ap, arith}
 use Rattle.std.proofs.lemmas.List.{length-append}
 use Rattle.std.proofs.lemmas.Bool.Decides.{nat_tests}
@@ -22,6 +22,6 @@ module _ {V : Type 0} (same : V → V → Bool) where
   rank_lawful e = record {
     below = λ rows frames known i h. grind (arith, nat_tests);
     at_total = λ rows frames i h. grind (arith, nat_tests);
-    grows = λ rows more frames i h. let l = length-append rows more in grind (arith, nat_tests);
-    local = λ p q a known i er ef len h. same_rank e.rank_type p.rows q.rows i (peers_front same p.rows q.rows a i er (let l : i < length (take a p.rows) = grind (arith, nat_tests) in l));
+    grows = λ rows more frames i h. grind (arith, nat_tests, length-append);
+    local = λ p q a known i er ef len h. same_rank e.rank_type p.rows q.rows i (peers_front same p.rows q.rows a i er (grind (arith, nat_tests)));
   }
