@@ -1,11 +1,11 @@
 // Ported from `cume_dist.rs` of the crate datafusion-functions-window 55.0.0 (Apache-2.0), and changed:
-// the planner's part is left out, and the evaluator is one with PERCENT_RANK's.
+// the planner's part is left out, the caller lends the output, and the evaluator is one with PERCENT_RANK's.
 ghost use Rattle.rank.specs.Fractions.{cume_dist};
 
 use crate::fractions::{Fraction, Fractions};
 use crate::graded::fraction;
 
-// The rows up to the group's end, divided by the rows.
+// CUME_DIST's fraction: the rows up to the group's end, divided by the rows.
 pub struct CumeDistFraction;
 
 impl Fraction for CumeDistFraction {

@@ -42,6 +42,7 @@ fn write_graded<G: Graded, O: Output<G::Grade>>(
 {
     for (number, &group) in groups.iter().enumerate() {
         let grade = function.grade(number, group, rows);
+        // by row number: an output is put to by row, and lends no list to go over
         for row in group.0..group.1 {
             out.put(row, grade);
         }

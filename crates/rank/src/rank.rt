@@ -1,5 +1,5 @@
 // Ported from `rank.rs` of the crate datafusion-functions-window 55.0.0 (Apache-2.0), and changed:
-// the planner's part is left out, the caller lends the output, and PERCENT_RANK is a type of its own.
+// the planner's part is left out, the caller lends the output, and PERCENT_RANK's evaluator is one with CUME_DIST's.
 ghost use Rattle.std.specs.Prelude.{◌≡◌, true, false, List, Option};
 ghost use Rattle.rank.specs.Fractions.{percent_rank};
 ghost use Rattle.rank.specs.Laws.{RankLaw};
@@ -128,7 +128,7 @@ impl<K: Kind> RowEvaluator for Rank<K> {
     }
 }
 
-// The rows before the group, divided by the rows but one.
+// PERCENT_RANK's fraction: the rows before the group, divided by the rows but one.
 pub struct PercentRankFraction;
 
 impl Fraction for PercentRankFraction {

@@ -52,6 +52,7 @@ fn write_numbers<O: Output<u64>>(rows: usize, out: &mut O)
     ensures slots { O.Output.slots out.new ≡ written O.Output.stored (λ i. i + 1) (O.Output.slots out.old) rows }
     ensures place { O.Output.place out.old out.new }
 {
+    // by row number: an output is put to by row, and lends no list to go over
     for row in 0..rows {
         out.put(row, row_number(row));
     }
