@@ -30,4 +30,4 @@ fraction_meaning grade same = record {
 
 -- a new evaluator of any of them
 abbrev pub new_fractions : {F V : Type 0} → Fractions F V
-new_fractions = record { fraction = record {}; kind = record {} }
+new_fractions = record { kind = record {} }

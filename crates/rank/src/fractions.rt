@@ -31,8 +31,7 @@ pub trait Fraction {
 // The window function that answers such a fraction.
 #[derive(Drop)]
 pub struct Fractions<F, K> {
-    fraction: PhantomData<F>,
-    kind: PhantomData<K>,
+    kind: PhantomData<(F, K)>,
 }
 
 impl<F: Fraction, K: Kind> Fractions<F, K> {
@@ -40,10 +39,7 @@ impl<F: Fraction, K: Kind> Fractions<F, K> {
         ensures is { result ≡ new_fractions }
         ensures law { (rows : List (Option K)) → GroupLaw K.Kind.same rows }
     {
-        Fractions {
-            fraction: PhantomData,
-            kind: PhantomData,
-        }
+        Fractions { kind: PhantomData }
     }
 }
 
