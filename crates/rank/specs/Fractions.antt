@@ -5,8 +5,7 @@ use Rattle.std.specs.Float.Ieee.{div, of_int}
 use Rattle.evaluator.specs.Meaning.{Meaning}
 use Rattle.partition.specs.Peers.{Group}
 use Rattle.rank.specs.Groups.{graded}
-use Rattle.rank.specs.declared.rank.PercentRank.{PercentRank}
-use Rattle.rank.specs.declared.cume_dist.CumeDist.{CumeDist}
+use Rattle.rank.specs.declared.fractions.Fractions.{Fractions}
 
 -- one division of two whole numbers, as doubles
 abbrev pub fraction : ℕ → ℕ → Float
@@ -29,18 +28,6 @@ fraction_meaning grade same = record {
   keep = 0;
 }
 
--- the meaning of PERCENT_RANK
-abbrev pub percent_rank_meaning : {V : Type 0} → (V → V → Bool) → PercentRank V → Meaning V Float
-percent_rank_meaning same e = fraction_meaning percent_rank same
-
--- the meaning of CUME_DIST
-abbrev pub cume_dist_meaning : {V : Type 0} → (V → V → Bool) → CumeDist V → Meaning V Float
-cume_dist_meaning same e = fraction_meaning cume_dist same
-
--- a new PERCENT_RANK
-abbrev pub new_percent_rank : {V : Type 0} → PercentRank V
-new_percent_rank = record { kind = record {} }
-
--- a new CUME_DIST
-abbrev pub new_cume_dist : {V : Type 0} → CumeDist V
-new_cume_dist = record { kind = record {} }
+-- a new evaluator of any of them
+abbrev pub new_fractions : {F V : Type 0} → Fractions F V
+new_fractions = record { kind = record {} }

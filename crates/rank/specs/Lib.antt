@@ -7,7 +7,4 @@ pub mod Cases
 pub mod FractionsLemmas
 pub mod RanksLemmas
 pub mod Fronts
-pub mod Steps
-pub mod Covers
-pub mod Whole
 pub mod NumbersLemmas

@@ -1,13 +1,19 @@
 // Ported from `rank.rs` and `cume_dist.rs` of the crate datafusion-functions-window 55.0.0 (Apache-2.0),
 // and changed: one loop over the peer groups, into a lent output, serves all functions that answer by them.
-ghost use Rattle.std.specs.Prelude.{◌≡◌, ℕ, ◌≤◌};
+ghost use Rattle.std.specs.Prelude.{◌≡◌, ℕ, ◌≤◌, true, false};
+ghost use Rattle.column.specs.Cells.{column_cells};
 ghost use Rattle.column.specs.Refusal.{row_limit};
 ghost use Rattle.column.specs.Slots.{written};
+ghost use Rattle.evaluator.specs.Meaning.{WholeCall};
 ghost use Rattle.partition.specs.Peers.{Group};
-ghost use Rattle.rank.specs.Groups.{Covers, Within, graded_by};
+ghost use Rattle.partition.specs.Table.{input, row_count, whole_refusal};
+ghost use Rattle.rank.specs.Groups.{Covers, Within, graded, graded_by};
 ghost use Rattle.rank.specs.Fractions.{fraction};
 
+use column::fault::Fault;
+use column::kind::Kind;
 use column::output::Output;
+use partition::whole::{WholePartition, check_whole};
 
 // A window function that gives all rows of a peer group one answer.
 pub trait Graded {
@@ -22,7 +28,7 @@ pub trait Graded {
 }
 
 // Writes the answer of each row, group by group.
-pub(crate) fn write_graded<G: Graded, O: Output<G::Grade>>(
+fn write_graded<G: Graded, O: Output<G::Grade>>(
     function: &G,
     rows: usize,
     groups: &[(usize, usize)],
@@ -34,13 +40,27 @@ pub(crate) fn write_graded<G: Graded, O: Output<G::Grade>>(
     ensures slots { O.Output.slots out.new ≡ written O.Output.stored (graded_by (G.Graded.graded function.now) groups.now rows) (O.Output.slots out.old) rows }
     ensures place { O.Output.place out.old out.new }
 {
-    for (number, group) in groups.iter().enumerate() {
-        let (start, end) = *group;
-        let grade = function.grade(number, (start, end), rows);
-        for row in start..end {
+    for (number, &group) in groups.iter().enumerate() {
+        let grade = function.grade(number, group, rows);
+        // by row number: an output is put to by row, and lends no list to go over
+        for row in group.0..group.1 {
             out.put(row, grade);
         }
     }
+}
+
+// The call on a whole partition: the answers of a function that gives them by peer groups.
+pub(crate) fn evaluate_graded<G: Graded, K: Kind, O: Output<G::Grade>>(
+    function: &G,
+    rows: &WholePartition<'_, K>,
+    out: &mut O,
+) -> Result<(), Fault>
+    ensures call { WholeCall O.Output.stored (whole_refusal K.Kind.same false true (input rows.now) (O.Output.size (O.Output.slots out.old))) (graded (G.Graded.graded function.now) K.Kind.same (column_cells rows.now.column)) (row_count (input rows.now)) (O.Output.slots out.old) (O.Output.slots out.new) result }
+    ensures place { O.Output.place out.old out.new }
+{
+    check_whole(rows, false, true, out.len())?;
+    write_graded(function, rows.column.values.len(), rows.groups.list, out);
+    Ok(())
 }
 
 // One division of two whole numbers.

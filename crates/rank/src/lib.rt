@@ -3,6 +3,7 @@
 ghost use Rattle.rank.specs.Cases.{Cases};
 
 pub mod cume_dist;
+mod fractions;
 mod graded;
 pub mod rank;
 pub mod row_number;

@@ -1,22 +1,21 @@
 // Ported from `rank.rs` of the crate datafusion-functions-window 55.0.0 (Apache-2.0), and changed:
-// the planner's part is left out, the caller lends the output, and PERCENT_RANK is a type of its own.
+// the planner's part is left out, the caller lends the output, and PERCENT_RANK's evaluator is one with CUME_DIST's.
 ghost use Rattle.std.specs.Prelude.{◌≡◌, true, false, List, Option};
-ghost use Rattle.rank.specs.Fractions.{percent_rank, percent_rank_meaning, new_percent_rank};
-ghost use Rattle.rank.specs.Laws.{GroupLaw, RankLaw};
+ghost use Rattle.rank.specs.Fractions.{percent_rank};
+ghost use Rattle.rank.specs.Laws.{RankLaw};
 ghost use Rattle.rank.specs.Ranks.{rank_graded, rank_meaning, new_rank, rank_renewed, rank_held, rank_stepped, rank_settling};
 ghost use Rattle.rank.specs.RanksLemmas.{rank_lawful};
-ghost use Rattle.rank.specs.FractionsLemmas.{fraction_lawful};
 
-use crate::graded::{Graded, fraction, write_graded};
-use crate::shown::reaches;
+use crate::fractions::{Fraction, Fractions};
+use crate::graded::{Graded, evaluate_graded, fraction};
+use crate::shown::row_shown;
 use crate::state::RankState;
 use column::fault::Fault;
 use column::kind::Kind;
 use column::output::Output;
 use evaluator::evaluator::Evaluator;
-use partition::whole::{WholePartition, check_whole};
+use partition::whole::WholePartition;
 use run::rows::{RowEvaluator, Turn};
-use std::marker::PhantomData;
 
 const FRAMES: bool = false;
 
@@ -58,13 +57,13 @@ impl<K: Kind> Rank<K> {
     }
 }
 
-impl<K: Kind> Graded for Rank<K> {
+impl Graded for RankType {
     type Grade = u64;
 
-    ghost graded = { λ e. rank_graded e.rank_type };
+    ghost graded = { rank_graded };
 
     fn grade(&self, number: usize, group: (usize, usize), _rows: usize) -> u64 {
-        match self.rank_type {
+        match self {
             RankType::Basic => group.0 as u64 + 1,
             RankType::Dense => number as u64 + 1,
         }
@@ -107,9 +106,7 @@ impl<K: Kind> Evaluator for Rank<K> {
         rows: &WholePartition<'_, K>,
         out: &mut O,
     ) -> Result<(), Fault> {
-        check_whole(rows, FRAMES, GROUPS, out.len())?;
-        write_graded(self, rows.column.values.len(), rows.groups.list, out);
-        Ok(())
+        evaluate_graded(&self.rank_type, rows, out)
     }
 }
 
@@ -119,12 +116,8 @@ impl<K: Kind> RowEvaluator for Rank<K> {
     ghost settling = { rank_settling };
 
     fn row(&mut self, turn: &Turn<'_, K>) -> Result<u64, Fault> {
-        let next = turn.next();
-        let window = turn.window();
-        if !reaches(&window, next) {
-            return Err(Fault::TooEarly(next));
-        }
-        self.state.step(next, window.cell(next));
+        let next = row_shown(turn)?;
+        self.state.step(next, turn.window().cell(next));
         Ok(self.rank())
     }
 
@@ -135,69 +128,16 @@ impl<K: Kind> RowEvaluator for Rank<K> {
     }
 }
 
-// PERCENT_RANK.
-#[derive(Drop)]
-pub struct PercentRank<K> {
-    kind: PhantomData<K>,
-}
+// PERCENT_RANK's fraction: the rows before the group, divided by the rows but one.
+pub struct PercentRankFraction;
 
-impl<K: Kind> PercentRank<K> {
-    pub fn new() -> PercentRank<K>
-        ensures is { result ≡ new_percent_rank }
-        ensures law { (rows : List (Option K)) → GroupLaw K.Kind.same rows }
-    {
-        PercentRank { kind: PhantomData }
-    }
-}
+impl Fraction for PercentRankFraction {
+    ghost fraction = { percent_rank };
 
-impl<K: Kind> Graded for PercentRank<K> {
-    type Grade = f64;
-
-    ghost graded = { λ e. percent_rank };
-
-    fn grade(&self, _number: usize, group: (usize, usize), rows: usize) -> f64 {
+    fn of(group: (usize, usize), rows: usize) -> f64 {
         fraction(group.0, rows.saturating_sub(1).max(1))
     }
 }
 
-impl<K: Kind> Evaluator for PercentRank<K> {
-    type Value = K;
-
-    type Answer = f64;
-
-    const WANTS_FRAMES: bool = FRAMES;
-
-    const WANTS_GROUPS: bool = GROUPS;
-
-    ghost frames = { false };
-
-    ghost groups = { true };
-
-    ghost meaning = { percent_rank_meaning K.Kind.same };
-
-    ghost renewed = { λ e. new_percent_rank };
-
-    ghost lawful = { λ e. fraction_lawful percent_rank K.Kind.same };
-
-    fn frames_wanted() -> bool {
-        FRAMES
-    }
-
-    fn groups_wanted() -> bool {
-        GROUPS
-    }
-
-    fn fresh(&self) -> PercentRank<K> {
-        PercentRank::new()
-    }
-
-    fn evaluate_all<O: Output<f64>>(
-        &self,
-        rows: &WholePartition<'_, K>,
-        out: &mut O,
-    ) -> Result<(), Fault> {
-        check_whole(rows, FRAMES, GROUPS, out.len())?;
-        write_graded(self, rows.column.values.len(), rows.groups.list, out);
-        Ok(())
-    }
-}
+// PERCENT_RANK.
+pub type PercentRank<K> = Fractions<PercentRankFraction, K>;

@@ -6,7 +6,7 @@ ghost use Rattle.column.specs.Slots.{written};
 ghost use Rattle.rank.specs.Numbers.{row_number_meaning, new_row_number, row_number_stepped, row_number_settling};
 ghost use Rattle.rank.specs.NumbersLemmas.{row_number_lawful};
 
-use crate::shown::reaches;
+use crate::shown::row_shown;
 use column::fault::Fault;
 use column::kind::Kind;
 use column::output::Output;
@@ -52,6 +52,7 @@ fn write_numbers<O: Output<u64>>(rows: usize, out: &mut O)
     ensures slots { O.Output.slots out.new ≡ written O.Output.stored (λ i. i + 1) (O.Output.slots out.old) rows }
     ensures place { O.Output.place out.old out.new }
 {
+    // by row number: an output is put to by row, and lends no list to go over
     for row in 0..rows {
         out.put(row, row_number(row));
     }
@@ -105,11 +106,7 @@ impl<K: Kind> RowEvaluator for RowNumber<K> {
     ghost settling = { row_number_settling };
 
     fn row(&mut self, turn: &Turn<'_, K>) -> Result<u64, Fault> {
-        let next = turn.next();
-        let window = turn.window();
-        if !reaches(&window, next) {
-            return Err(Fault::TooEarly(next));
-        }
+        let next = row_shown(turn)?;
         self.n_rows = self.n_rows.max(next + 1);
         Ok(row_number(next))
     }

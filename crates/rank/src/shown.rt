@@ -1,13 +1,24 @@
-ghost use Rattle.std.specs.Prelude.{◌≡◌, ◌≤◌, nat_lt};
+ghost use Rattle.std.specs.Prelude.{◌≡◌, ◌<◌, ◌≤◌, MatchResult};
 ghost use Rattle.column.specs.Refusal.{row_limit};
+ghost use Rattle.column.specs.declared.fault.Fault.TheVariants.{TooEarly};
 ghost use Rattle.run.specs.Shown.{end_of};
 
-use column::column::Window;
+use column::fault::Fault;
+use column::kind::Kind;
+use run::rows::Turn;
 
-// Whether a window reaches past a row.
-pub(crate) fn reaches<K>(window: &Window<'_, K>, row: usize) -> bool
-    requires { end_of window.now ≤ row_limit }
-    ensures { result ≡ nat_lt row (end_of window.now) }
+// The row that is asked for; too early if the window does not reach past it.
+pub(crate) fn row_shown<K: Kind>(turn: &Turn<'_, K>) -> Result<usize, Fault>
+    requires { end_of turn.now.window ≤ row_limit }
+    ensures { MatchResult result
+        (λ row. (row ≡ turn.now.next) × (row < end_of turn.now.window))
+        (λ fault. (fault ≡ TooEarly turn.now.next) × (end_of turn.now.window ≤ turn.now.next)) }
 {
-    row < window.begin + window.rows.values.len()
+    let row = turn.next();
+    let window = turn.window();
+    if row < window.begin + window.rows.values.len() {
+        Ok(row)
+    } else {
+        Err(Fault::TooEarly(row))
+    }
 }

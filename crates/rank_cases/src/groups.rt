@@ -13,7 +13,7 @@ const VALUES: [Instant; 5] = [Instant(4), Instant(4), Instant(1), Instant(2), In
 
 const MARKS: [bool; 5] = [true, true, false, false, true];
 
-fn column<'a>(values: &'a [Instant], marks: &'a [bool]) -> Column<'a, Instant> {
+fn column<'a, K>(values: &'a [K], marks: &'a [bool]) -> Column<'a, K> {
     Column { values, marks }
 }
 
@@ -23,7 +23,7 @@ fn groups(rt: HostRuntime) {
     let mut list = [(7, 7); 4];
     assert_eq!(rt; peer_groups(&column(&VALUES, &MARKS), &mut list), Ok(3));
     assert_eq!(rt; list, [(0, 2), (2, 4), (4, 5), (7, 7)]);
-    assert_eq!(rt; peer_groups(&column(&[], &[]), &mut list), Ok(0));
+    assert_eq!(rt; peer_groups(&column::<Instant>(&[], &[]), &mut list), Ok(0));
     assert_eq!(rt; list, [(0, 2), (2, 4), (4, 5), (7, 7)]);
 }
 
@@ -45,8 +45,7 @@ fn last_of<'a>(
     groups: &'a mut [(usize, usize)],
     out: &mut [f64],
 ) -> Result<usize, Fault> {
-    let column = Column { values, marks };
-    let count = peer_groups(&column, groups)?;
+    let count = peer_groups(&column(values, marks), groups)?;
     let rows = WholePartition::new(values, marks, &[], groups);
     CumeDist::new().evaluate_all(&rows, &mut Numbers { list: out })?;
     Ok(count)
@@ -59,21 +58,11 @@ fn row_limit(rt: HostRuntime) -> Result<(), Fail> {
     let mut marks = vec![in heap; true; 16_777_217]?;
     let mut out = vec![in heap; 0.0; 16_777_216]?;
     let mut groups = [(7, 7); 1];
-    let more = last_of(
-        values.as_slice(),
-        marks.as_slice(),
-        &mut groups,
-        out.as_mut_slice(),
-    );
+    let more = last_of(&values, &marks, &mut groups, &mut out);
     assert_eq!(rt; more, Err(Fault::RowLimit(ROW_LIMIT)));
     values.truncate(ROW_LIMIT);
     marks.truncate(ROW_LIMIT);
-    let all = last_of(
-        values.as_slice(),
-        marks.as_slice(),
-        &mut groups,
-        out.as_mut_slice(),
-    );
+    let all = last_of(&values, &marks, &mut groups, &mut out);
     assert_eq!(rt; all, Ok(1));
     assert_eq!(rt; groups, [(0, ROW_LIMIT)]);
     assert!(rt; out.last() == Some(&1.0));

@@ -10,7 +10,7 @@ use rank::row_number::RowNumber;
 use std::test::Fail;
 
 // 4, 4, 6, 6, 6, 9
-const KEYS: [Instant; 6] = [
+pub(crate) const KEYS: [Instant; 6] = [
     Instant(4),
     Instant(4),
     Instant(6),
@@ -23,44 +23,49 @@ const MARKS: [bool; 6] = [true; 6];
 
 const GROUPS: [(usize, usize); 3] = [(0, 2), (2, 5), (5, 6)];
 
-// The answers on the keys, into a list of 77s.
-fn ranked(rank_type: RankType, groups: &[(usize, usize)]) -> (Result<(), Fault>, [u64; 7]) {
+// Writes the answers on the keys into a lent list.
+fn answer<E: Evaluator<Value = Instant>>(
+    evaluator: &E,
+    groups: &[(usize, usize)],
+    out: &mut [E::Answer],
+) -> Result<(), Fault> {
     let rows = WholePartition::new(&KEYS, &MARKS, &[], groups);
-    let mut out = [77; 7];
-    let outcome = Rank::new(rank_type).evaluate_all(&rows, &mut Numbers { list: &mut out });
-    (outcome, out)
+    evaluator.evaluate_all(&rows, &mut Numbers { list: out })
 }
 
 #[test]
-fn worked_case(rt: HostRuntime) {
+fn worked_case(rt: HostRuntime) -> Result<(), Fail> {
     assert_eq!(rt; cases_hold(), 10);
-    let (outcome, answers) = ranked(RankType::Basic, &GROUPS);
-    assert_eq!(rt; outcome, Ok(()));
-    assert_eq!(rt; answers, [1, 1, 3, 3, 3, 6, 77]);
-    let (outcome, answers) = ranked(RankType::Dense, &GROUPS);
-    assert_eq!(rt; outcome, Ok(()));
-    assert_eq!(rt; answers, [1, 1, 2, 2, 2, 3, 77]);
+    let mut out = [77; 7];
+    answer(&Rank::new(RankType::Basic), &GROUPS, &mut out)?;
+    assert_eq!(rt; out, [1, 1, 3, 3, 3, 6, 77]);
+    let mut out = [77; 7];
+    answer(&Rank::new(RankType::Dense), &GROUPS, &mut out)?;
+    assert_eq!(rt; out, [1, 1, 2, 2, 2, 3, 77]);
+    Ok(())
 }
 
 // Groups that are not the keys' are refused, and so are none at all.
 #[test]
 fn refused(rt: HostRuntime) {
-    let (outcome, answers) = ranked(RankType::Basic, &[(0, 1), (1, 5), (5, 6)]);
-    assert_eq!(rt; outcome, Err(Fault::BadGroups(0)));
-    assert_eq!(rt; answers, [77; 7]);
-    let (outcome, _) = ranked(RankType::Dense, &GROUPS[0..2]);
-    assert_eq!(rt; outcome, Err(Fault::BadGroups(2)));
-    let (outcome, _) = ranked(RankType::Dense, &[]);
-    assert_eq!(rt; outcome, Err(Fault::Absent(0)));
+    let rank = Rank::new(RankType::Basic);
+    let dense = Rank::new(RankType::Dense);
+    let mut out = [77; 7];
+    let other = answer(&rank, &[(0, 1), (1, 5), (5, 6)], &mut out);
+    assert_eq!(rt; other, Err(Fault::BadGroups(0)));
+    let fewer = answer(&dense, &GROUPS[0..2], &mut out);
+    assert_eq!(rt; fewer, Err(Fault::BadGroups(2)));
+    let none = answer(&dense, &[], &mut out);
+    assert_eq!(rt; none, Err(Fault::Absent(0)));
+    assert_eq!(rt; out, [77; 7]);
 }
 
 #[test]
 fn fractions(rt: HostRuntime) -> Result<(), Fail> {
-    let rows = WholePartition::new(&KEYS, &MARKS, &[], &GROUPS);
     let mut out = [7.0; 6];
-    PercentRank::new().evaluate_all(&rows, &mut Numbers { list: &mut out })?;
+    answer(&PercentRank::new(), &GROUPS, &mut out)?;
     assert!(rt; out == [0.0, 0.0, 0.4, 0.4, 0.4, 1.0]);
-    CumeDist::new().evaluate_all(&rows, &mut Numbers { list: &mut out })?;
+    answer(&CumeDist::new(), &GROUPS, &mut out)?;
     assert!(rt; out == [2.0 / 6.0, 2.0 / 6.0, 5.0 / 6.0, 5.0 / 6.0, 5.0 / 6.0, 1.0]);
     Ok(())
 }
@@ -79,9 +84,8 @@ fn one_row(rt: HostRuntime) -> Result<(), Fail> {
 // ROW_NUMBER wants no groups.
 #[test]
 fn row_numbers(rt: HostRuntime) -> Result<(), Fail> {
-    let rows = WholePartition::new(&KEYS, &MARKS, &[], &[]);
     let mut out = [77; 6];
-    RowNumber::new().evaluate_all(&rows, &mut Numbers { list: &mut out })?;
+    answer(&RowNumber::new(), &[], &mut out)?;
     assert_eq!(rt; out, [1, 2, 3, 4, 5, 6]);
     Ok(())
 }

@@ -1,3 +1,4 @@
+use crate::ranks::KEYS;
 use column::column::{Column, Window};
 use column::fault::Fault;
 use column::kind::Instant;
@@ -6,22 +7,9 @@ use rank::row_number::RowNumber;
 use run::rows::RowEvaluator;
 use run::run::Open;
 
-// 4, 4, 6, 6, 6, 9
-const KEYS: [Instant; 6] = [
-    Instant(4),
-    Instant(4),
-    Instant(6),
-    Instant(6),
-    Instant(6),
-    Instant(9),
-];
-
 fn rows<'a>(values: &'a [Instant], marks: &'a [bool], begin: usize) -> Window<'a, Instant> {
-    let column = Column { values, marks };
-    Window {
-        begin,
-        rows: column,
-    }
+    let rows = Column { values, marks };
+    Window { begin, rows }
 }
 
 // The answers of a run whose every window holds one row.
@@ -31,9 +19,8 @@ fn one_by_one<E: RowEvaluator<Value = Instant, Answer = u64> + Drop>(
 ) -> Result<[u64; 6], Fault> {
     let mut run = Open::new(evaluator, false);
     let mut answers = [0; 6];
-    for i in 0..6 {
-        let window = rows(&KEYS[i..i + 1], &marks[i..i + 1], run.keep_mark());
-        answers[i] = run.request(&window, None)?;
+    for ((answer, key), mark) in answers.iter_mut().zip(KEYS.chunks(1)).zip(marks.chunks(1)) {
+        *answer = run.request(&rows(key, mark, run.keep_mark()), None)?;
     }
     Ok(answers)
 }

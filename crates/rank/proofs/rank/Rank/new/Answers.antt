@@ -1,9 +1,5 @@
 use Rattle.rank.proofs.Laws.{rank_law}
 use Rattle.rank.proofs.rank.Rank.new.Goals as goal
-use Rattle.std.proofs.Common.{rules}
 
-pub returns : goal.returns
-returns g c = record {
-  is = search rules;
-  law = λ rows. let k = g.met.K.Kind in rank_law g.K.Kind.same k.reflexive k.symmetric k.transitive rows;
-}
+pub returns-clause-law : goal.returns-clause-law
+returns-clause-law g c = let k = g.met.K.Kind in rank_law g.K.Kind.same k.reflexive k.symmetric k.transitive

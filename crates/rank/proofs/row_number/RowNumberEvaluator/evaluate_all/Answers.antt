@@ -1,23 +1,10 @@
-use Rattle.std.proofs.Common.{false, Err, refl, ap, ◌∙◌, arith}
+use Rattle.std.proofs.Common.{false, Err, ap, ◌∙◌}
 use Rattle.std.proofs.lemmas.Result.{err_from_is_err_and}
 use Rattle.partition.specs.Table.{input}
-use Rattle.evaluator.proofs.Calls.{call-refused, call-done, refuses, accepts}
+use Rattle.evaluator.proofs.Calls.{call-refused, refuses}
 use Rattle.rank.proofs.row_number.RowNumberEvaluator.evaluate_all.Goals as goal
 
-pub returns-in_err-check_whole : goal.returns-in_err-check_whole
-returns-in_err-check_whole g c =
-    let o = g.O.Output in
-    let p = err_from_is_err_and c.from_residual.result c.from_residual.ensures.1 in
-    let e = refuses g.K.Kind.same false false (input c.args.rows.now) (o.size (o.slots c.args.out.now)) c.len.result c.in_err-check_whole.field-0.0 c.len.ensures c.in_err-check_whole.ensures.checked in
-    record { call = call-refused _ _ _ _ _ _ _ e (p.1 ∙ ap Err p.2); place = o.laws.refl _ }
-
-pub write_numbers-requires : goal.write_numbers-requires
-write_numbers-requires g c =
-    let a = c.in_ok-check_whole.ensures.accepted refl in
-    record { limited = a.limited; room = omega (arith, a.room, c.len.ensures) }
-
-pub returns : goal.returns
-returns g c =
-    let o = g.O.Output in
-    let e = accepts g.K.Kind.same false false (input c.args.rows.now) (o.size (o.slots c.args.out.now)) c.len.result c.in_ok-check_whole.field-0 c.len.ensures c.in_ok-check_whole.ensures.checked in
-    record { call = call-done _ _ _ _ _ _ e c.write_numbers.ensures.slots; place = c.write_numbers.ensures.place }
+pub returns-in_err-check_whole-clause-call : goal.returns-in_err-check_whole-clause-call
+returns-in_err-check_whole-clause-call g c =
+    let p = err_from_is_err_and _ c.from_residual.ensures.1 in
+    call-refused _ _ _ _ _ _ _ (refuses g.K.Kind.same false false (input c.args.rows.now) _ _ _ c.len.ensures c.in_err-check_whole.ensures.checked) (p.1 ∙ ap Err p.2)

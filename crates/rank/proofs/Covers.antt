@@ -1,9 +1,9 @@
 -- Groups that cover the rows, one by one.
-use Rattle.std.specs.Prelude.{◌≡◌, ℕ, zero, suc, ◌+◌, ◌<◌, ◌≤◌, List, [], ◌∷◌, length, get_or, nat_lt, slice_index_or, refl}
-use Rattle.std.proofs.Common.{sym, ◌∙◌, ap, subst, arith}
-use Rattle.std.proofs.lemmas.Bool.{cond-true, cond-false, lt-ltb, le-ltb}
+use Rattle.std.specs.Prelude.{◌≡◌, ℕ, zero, suc, ◌+◌, ◌<◌, ◌≤◌, Bool, List, [], ◌∷◌, Option, length, get_or, slice_index_or, refl}
+use Rattle.std.proofs.Common.{sym, ap, arith}
+use Rattle.std.proofs.lemmas.Bool.{lt-ltb, le-ltb}
 use Rattle.column.specs.Refusal.{row_limit}
-use Rattle.partition.specs.Peers.{Group}
+use Rattle.partition.specs.Peers.{Group, Tiled}
 use Rattle.rank.specs.Groups.{group_number, Covers, Within}
 
 -- the row at which group k begins; past the last group n
@@ -41,7 +41,7 @@ placed (g ∷ gs) s n zero c h = record {
   number = omega (arith, c.0);
   nonempty = c.1;
   inside = covers_below gs g.1 n c.2;
-  holds = λ i l u. cond-true (nat_lt i g.1) 0 (suc (group_number gs i)) (lt-ltb i g.1 u);
+  holds = λ i l u. rw (lt-ltb i g.1 u) refl;
 }
 placed (g ∷ gs) s n (suc k) c h =
     let p = placed gs g.1 n k c.2 (omega arith) in
@@ -51,11 +51,14 @@ placed (g ∷ gs) s n (suc k) c h =
       number = omega (arith, c.0, c.1, p.number);
       nonempty = p.nonempty;
       inside = p.inside;
-      holds = λ i l u. cond-false (nat_lt i g.1) 0 (suc (group_number gs i)) (le-ltb i g.1 (omega (arith, p.number))) ∙ ap suc (p.holds i l u);
+      holds = λ i l u. rw (le-ltb i g.1 (omega (arith, p.number))) (ap suc (p.holds i l u));
     }
 
 -- what the answer of a group needs of it
-pub within : (gs : List Group) (n k : ℕ) → Covers 0 gs n → n ≤ row_limit → k < length gs → (g : Group) → g ≡ slice_index_or gs k (0, 0) → Within k g n
-within gs n k c m h g e =
-    let p = placed gs 0 n k c h in
-    subst (λ (x : Group). Within k x n) (sym e) (record { number = omega (arith, p.number); nonempty = p.nonempty; inside = p.inside; limited = m })
+pub within : (gs : List Group) (n k : ℕ) → Covers 0 gs n → n ≤ row_limit → k < length gs → Within k (slice_index_or gs k (0, 0)) n
+within gs n k c m h = let p = placed gs 0 n k c h in record { number = omega (arith, p.number); nonempty = p.nonempty; inside = p.inside; limited = m }
+
+-- groups that tile the rows cover them
+pub tiled_covers : {V : Type 0} (same : V → V → Bool) (cs : List (Option V)) (gs : List Group) (s : ℕ) → Tiled same cs s gs → Covers s gs (length cs)
+tiled_covers same cs [] s t = t
+tiled_covers same cs (g ∷ gs) s t = (t.0, t.1.nonempty, tiled_covers same cs gs g.1 t.2)

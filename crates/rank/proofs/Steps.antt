@@ -1,17 +1,15 @@
 -- What RANK and DENSE_RANK hold, one row on.
-use Rattle.std.specs.Prelude.{◌≡◌, ℕ, zero, suc, ◌+◌, ◌<◌, ◌≤◌, max, Bool, true, false, not, T, List, [], ◌∷◌, length, get_or, Some, None, Option, nat_lt, slice_index_or}
-use Rattle.std.proofs.Common.{sym, ◌∙◌, ap, subst, ⊎_elim, arith, add-one}
-use Rattle.std.proofs.lemmas.Bool.{cond-true, cond-false, cases_lt, lt-ltb, le-ltb}
+use Rattle.std.specs.Prelude.{◌≡◌, ℕ, zero, suc, ◌+◌, ◌<◌, ◌≤◌, refl, max, Bool, true, false, T, List, [], ◌∷◌, length, get_or, None, Option, slice_index_or}
+use Rattle.std.proofs.Common.{⊎_elim, arith, add-one}
+use Rattle.std.proofs.lemmas.Bool.{cases_lt, lt-ltb, le-ltb}
 use Rattle.column.specs.Cells.{same_cell}
 use Rattle.column.specs.Refusal.{row_limit}
 use Rattle.partition.specs.Peers.{Group, peers, IsGroup, Tiled}
 use Rattle.partition.proofs.Groups.{tiled}
-use Rattle.rank.specs.declared.state.RankState.{RankState}
 use Rattle.rank.specs.Groups.{group_number, group_at, Covers}
 use Rattle.rank.specs.Laws.{GroupLaw}
 use Rattle.rank.specs.Ranks.{state_at, one_more, state_after}
-use Rattle.rank.specs.Covers.{start_at, past_last, Placed, placed}
-use Rattle.rank.specs.Whole.{tiled_covers}
+use Rattle.rank.proofs.Covers.{past_last, Placed, placed, tiled_covers}
 
 -- the group of row i holds it
 record Lies (gs : List Group) (i k : ℕ) : Type 0 where
@@ -23,8 +21,8 @@ lies : (gs : List Group) (s n i : ℕ) → Covers s gs n → s ≤ i → i < n �
 lies [] s n i c h l = absurd (omega (arith, c))
 lies (g ∷ gs) s n i c h l =
     ⊎_elim
-    (λ t. subst (Lies (g ∷ gs) i) (sym (cond-true (nat_lt i g.1) 0 _ (lt-ltb i g.1 t))) (record { counted = omega arith; from = omega (arith, c.0); below = t }))
-    (λ t. let r = lies gs g.1 n i c.2 t l in subst (Lies (g ∷ gs) i) (sym (cond-false (nat_lt i g.1) 0 _ (le-ltb i g.1 t))) (record { counted = omega (arith, r.counted); from = r.from; below = r.below }))
+    (λ t. rw (lt-ltb i g.1 t) (record { counted = omega arith; from = omega (arith, c.0); below = t }))
+    (λ t. let r = lies gs g.1 n i c.2 t l in rw (le-ltb i g.1 t) (record { counted = omega (arith, r.counted); from = r.from; below = r.below }))
     (cases_lt i g.1)
 
 module _ {V : Type 0} (same : V → V → Bool) (self : (x : V) → T (same x x)) (rows : List (Option V)) where
@@ -78,7 +76,8 @@ module _ {V : Type 0} (same : V → V → Bool) (self : (x : V) → T (same x x)
     pub next_number : g.1 ≡ suc j → (group_number groups (suc j) ≡ suc k) × ((get_or groups (suc k) (0, 0)).0 ≡ suc j)
     next_number q =
         let p = place k at.counted in
-        let more : suc k < length groups = ⊎_elim (λ l. l) (λ l. let z : suc k ≡ length groups = omega (arith, at.counted) in absurd (omega (arith, p.ends, ap (start_at groups (length rows)) z, past_last groups (length rows)))) (cases_lt (suc k) (length groups)) in
+        let z = past_last groups (length rows) in
+        let more : suc k < length groups = grind (arith, p.ends, at.counted) in
         let r = place (suc k) more in
         let b : (get_or groups (suc k) (0, 0)).0 ≡ suc j = omega (arith, r.begins, p.ends) in
         (r.holds (suc j) (omega arith) (omega (arith, r.nonempty)), b)
@@ -88,18 +87,14 @@ module _ {V : Type 0} (same : V → V → Bool) (self : (x : V) → T (same x x)
     goes_on l = (group_law.group j (omega arith)).alike (suc j) (omega (arith, at.from)) l
 
     pub goes_off : g.1 ≡ suc j → same_cell same (slice_index_or rows g.0 None) (slice_index_or rows (suc j) None) ≡ false
-    goes_off q = subst (λ (y : ℕ). same_cell same (slice_index_or rows g.0 None) (slice_index_or rows y None) ≡ false) q ((group_law.group j (omega arith)).stops (omega arith))
-
-  -- the state by the group's number and the row
-  abbrev held_by : ℕ → ℕ → RankState V
-  held_by k n = record { last_rank_data = Some (slice_index_or rows (get_or groups k (0, 0)).0 None); last_rank_boundary = (get_or groups k (0, 0)).0; n_rank = k + 1; next = n }
+    goes_off q = rw (← q) ((group_law.group j (omega arith)).stops (omega arith))
 
   module _ (j : ℕ) (h : suc j < length rows) (m : suc j < row_limit) where
     -- the group goes on
     continues : suc j < (group_at groups j).1 → state_after same (state_at same rows (suc j)) (slice_index_or rows (suc j) None) (suc j) ≡ state_at same rows (suc j + 1)
     continues l =
         let x : max (suc j) (suc j + 1) ≡ suc (suc j) = omega arith in
-        cond-false (not (same_cell same (slice_index_or rows (group_at groups j).0 None) (slice_index_or rows (suc j) None))) _ _ (ap not (goes_on j h l)) ∙ (ap (held_by (group_number groups j)) x ∙ (ap (λ (y : ℕ). held_by y (suc (suc j))) (sym (same_number j h l)) ∙ sym (ap (state_at same rows) (add-one (suc j)))))
+        rw (goes_on j h l, x, add-one (suc j), same_number j h l) refl
 
     -- the next one opens
     opened : (group_at groups j).1 ≡ suc j → state_after same (state_at same rows (suc j)) (slice_index_or rows (suc j) None) (suc j) ≡ state_at same rows (suc j + 1)
@@ -107,19 +102,13 @@ module _ {V : Type 0} (same : V → V → Bool) (self : (x : V) → T (same x x)
         let k : ℕ = group_number groups j in
         let a = lie j (omega arith) in
         let r = next_number j h q in
-        let b : (get_or groups (suc k) (0, 0)).0 ≡ suc j = r.1 in
         let x : max (suc j) (suc j + 1) ≡ suc (suc j) = omega arith in
         let y : one_more (k + 1) ≡ suc k + 1 = omega (arith, (place k a.counted).number, a.from) in
-        let z : record { last_rank_data = Some (slice_index_or rows (suc j) None); last_rank_boundary = suc j; n_rank = one_more (k + 1); next = max (suc j) (suc j + 1) } ≡ held_by (suc k) (suc (suc j)) = cc in
-        cond-true (not (same_cell same (slice_index_or rows (group_at groups j).0 None) (slice_index_or rows (suc j) None))) _ _ (ap not (goes_off j h q)) ∙ (z ∙ (ap (λ (y : ℕ). held_by y (suc (suc j))) (sym r.0) ∙ sym (ap (state_at same rows) (add-one (suc j)))))
+        rw (goes_off j h q, x, y, add-one (suc j), r.0, r.1) refl
 
   -- what is held at a row, with the row, is held at the next
   pub state_on : (i : ℕ) → i < length rows → i < row_limit → state_after same (state_at same rows i) (slice_index_or rows i None) i ≡ state_at same rows (i + 1)
-  state_on zero h m =
-      let n : group_number groups 0 ≡ 0 = first_number h in
-      let b : (get_or groups 0 (0, 0)).0 ≡ 0 = subst (λ (k : ℕ). (get_or groups k (0, 0)).0 ≡ 0) n (first_row h) in
-      let z : record { last_rank_data = Some (slice_index_or rows 0 None); last_rank_boundary = 0; n_rank = 1; next = 1 } ≡ held_by 0 1 = cc in
-      z ∙ ap (λ (k : ℕ). held_by k 1) (sym n)
+  state_on zero h m = rw (first_row h, first_number h) refl
   state_on (suc j) h m =
       let a = lie j (omega arith) in
       ⊎_elim (λ l. continues j h m l) (λ l. opened j h m (omega (arith, a.below))) (cases_lt (suc j) (group_at groups j).1)

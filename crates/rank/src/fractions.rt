@@ -1,0 +1,94 @@
+// Ported from `rank.rs` and `cume_dist.rs` of the crate datafusion-functions-window 55.0.0 (Apache-2.0),
+// and changed: PERCENT_RANK and CUME_DIST are one evaluator, over the fraction that each gives.
+ghost use Rattle.std.specs.Prelude.{◌≡◌, ℕ, true, false, List, Option, Float};
+ghost use Rattle.partition.specs.Peers.{Group};
+ghost use Rattle.rank.specs.Fractions.{fraction_meaning, new_fractions};
+ghost use Rattle.rank.specs.FractionsLemmas.{fraction_lawful};
+ghost use Rattle.rank.specs.Groups.{Within};
+ghost use Rattle.rank.specs.Laws.{GroupLaw};
+
+use crate::graded::{Graded, evaluate_graded};
+use column::fault::Fault;
+use column::kind::Kind;
+use column::output::Output;
+use evaluator::evaluator::Evaluator;
+use partition::whole::WholePartition;
+use std::marker::PhantomData;
+
+const FRAMES: bool = false;
+
+const GROUPS: bool = true;
+
+// A fraction of all rows that the rows of a peer group are given, whatever the group's number.
+pub trait Fraction {
+    ghost fraction: { ℕ → Group → ℕ → Float };
+
+    fn of(group: (usize, usize), rows: usize) -> f64
+        requires { Within 0 group rows }
+        ensures { (number : ℕ) → result ≡ fraction number group rows };
+}
+
+// The window function that answers such a fraction.
+#[derive(Drop)]
+pub struct Fractions<F, K> {
+    kind: PhantomData<(F, K)>,
+}
+
+impl<F: Fraction, K: Kind> Fractions<F, K> {
+    pub fn new() -> Fractions<F, K>
+        ensures is { result ≡ new_fractions }
+        ensures law { (rows : List (Option K)) → GroupLaw K.Kind.same rows }
+    {
+        Fractions { kind: PhantomData }
+    }
+}
+
+impl<F: Fraction, K: Kind> Graded for Fractions<F, K> {
+    type Grade = f64;
+
+    ghost graded = { λ e. F.Fraction.fraction };
+
+    fn grade(&self, _number: usize, group: (usize, usize), rows: usize) -> f64 {
+        F::of(group, rows)
+    }
+}
+
+impl<F: Fraction, K: Kind> Evaluator for Fractions<F, K> {
+    type Value = K;
+
+    type Answer = f64;
+
+    const WANTS_FRAMES: bool = FRAMES;
+
+    const WANTS_GROUPS: bool = GROUPS;
+
+    ghost frames = { false };
+
+    ghost groups = { true };
+
+    ghost meaning = { λ e. fraction_meaning F.Fraction.fraction K.Kind.same };
+
+    ghost renewed = { λ e. new_fractions };
+
+    ghost lawful = { λ e. fraction_lawful F.Fraction.fraction K.Kind.same };
+
+    fn frames_wanted() -> bool {
+        FRAMES
+    }
+
+    fn groups_wanted() -> bool {
+        GROUPS
+    }
+
+    fn fresh(&self) -> Fractions<F, K> {
+        Fractions::new()
+    }
+
+    fn evaluate_all<O: Output<f64>>(
+        &self,
+        rows: &WholePartition<'_, K>,
+        out: &mut O,
+    ) -> Result<(), Fault> {
+        evaluate_graded(self, rows, out)
+    }
+}
