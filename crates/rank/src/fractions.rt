@@ -15,10 +15,6 @@ use evaluator::evaluator::Evaluator;
 use partition::whole::WholePartition;
 use std::marker::PhantomData;
 
-const FRAMES: bool = false;
-
-const GROUPS: bool = true;
-
 // A fraction of all rows that the rows of a peer group are given, whatever the group's number.
 pub trait Fraction {
     ghost fraction: { ℕ → Group → ℕ → Float };
@@ -58,27 +54,19 @@ impl<F: Fraction, K: Kind> Evaluator for Fractions<F, K> {
 
     type Answer = f64;
 
-    const WANTS_FRAMES: bool = FRAMES;
+    const WANTS_FRAMES: bool = false;
 
-    const WANTS_GROUPS: bool = GROUPS;
+    const WANTS_GROUPS: bool = true;
 
-    ghost frames = { false };
+    ghost WANTS_FRAMES = { false };
 
-    ghost groups = { true };
+    ghost WANTS_GROUPS = { true };
 
     ghost meaning = { λ e. fraction_meaning F.Fraction.fraction K.Kind.same };
 
     ghost renewed = { λ e. new_fractions };
 
     ghost lawful = { λ e. fraction_lawful F.Fraction.fraction K.Kind.same };
-
-    fn frames_wanted() -> bool {
-        FRAMES
-    }
-
-    fn groups_wanted() -> bool {
-        GROUPS
-    }
 
     fn fresh(&self) -> Fractions<F, K> {
         Fractions::new()

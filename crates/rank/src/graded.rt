@@ -59,7 +59,7 @@ pub(crate) fn evaluate_graded<G: Graded, K: Kind, O: Output<G::Grade>>(
     ensures place { O.Output.place out.old out.new }
 {
     check_whole(rows, false, true, out.len())?;
-    write_graded(function, rows.column.values.len(), rows.groups.list, out);
+    write_graded(function, rows.column.values.len(), rows.groups, out);
     Ok(())
 }
 

@@ -17,10 +17,6 @@ use evaluator::evaluator::Evaluator;
 use partition::whole::WholePartition;
 use run::rows::{RowEvaluator, Turn};
 
-const FRAMES: bool = false;
-
-const GROUPS: bool = true;
-
 // Which of the two functions that count.
 #[derive(Clone, Copy)]
 pub enum RankType {
@@ -75,27 +71,19 @@ impl<K: Kind> Evaluator for Rank<K> {
 
     type Answer = u64;
 
-    const WANTS_FRAMES: bool = FRAMES;
+    const WANTS_FRAMES: bool = false;
 
-    const WANTS_GROUPS: bool = GROUPS;
+    const WANTS_GROUPS: bool = true;
 
-    ghost frames = { false };
+    ghost WANTS_FRAMES = { false };
 
-    ghost groups = { true };
+    ghost WANTS_GROUPS = { true };
 
     ghost meaning = { rank_meaning K.Kind.same };
 
     ghost renewed = { rank_renewed };
 
     ghost lawful = { λ e. rank_lawful K.Kind.same e };
-
-    fn frames_wanted() -> bool {
-        FRAMES
-    }
-
-    fn groups_wanted() -> bool {
-        GROUPS
-    }
 
     fn fresh(&self) -> Rank<K> {
         Rank::new(self.rank_type)

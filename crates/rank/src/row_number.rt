@@ -15,10 +15,6 @@ use partition::whole::{WholePartition, check_whole};
 use run::rows::{RowEvaluator, Turn};
 use std::marker::PhantomData;
 
-const FRAMES: bool = false;
-
-const GROUPS: bool = false;
-
 // ROW_NUMBER, with the number of rows that were answered.
 #[derive(Drop)]
 pub struct RowNumber<K> {
@@ -63,27 +59,19 @@ impl<K: Kind> Evaluator for RowNumber<K> {
 
     type Answer = u64;
 
-    const WANTS_FRAMES: bool = FRAMES;
+    const WANTS_FRAMES: bool = false;
 
-    const WANTS_GROUPS: bool = GROUPS;
+    const WANTS_GROUPS: bool = false;
 
-    ghost frames = { false };
+    ghost WANTS_FRAMES = { false };
 
-    ghost groups = { false };
+    ghost WANTS_GROUPS = { false };
 
     ghost meaning = { row_number_meaning };
 
     ghost renewed = { λ e. new_row_number };
 
     ghost lawful = { λ e. row_number_lawful e };
-
-    fn frames_wanted() -> bool {
-        FRAMES
-    }
-
-    fn groups_wanted() -> bool {
-        GROUPS
-    }
 
     fn fresh(&self) -> RowNumber<K> {
         RowNumber::new()
@@ -94,7 +82,7 @@ impl<K: Kind> Evaluator for RowNumber<K> {
         rows: &WholePartition<'_, K>,
         out: &mut O,
     ) -> Result<(), Fault> {
-        check_whole(rows, FRAMES, GROUPS, out.len())?;
+        check_whole(rows, false, false, out.len())?;
         write_numbers(rows.column.values.len(), out);
         Ok(())
     }

@@ -1,5 +1,4 @@
 ghost use Rattle.std.specs.Prelude.{◌≡◌, ◌<◌, ◌≤◌, MatchResult};
-ghost use Rattle.column.specs.Refusal.{row_limit};
 ghost use Rattle.column.specs.declared.fault.Fault.TheVariants.{TooEarly};
 ghost use Rattle.run.specs.Shown.{end_of};
 
@@ -9,14 +8,12 @@ use run::rows::Turn;
 
 // The row that is asked for; too early if the window does not reach past it.
 pub(crate) fn row_shown<K: Kind>(turn: &Turn<'_, K>) -> Result<usize, Fault>
-    requires { end_of turn.now.window ≤ row_limit }
     ensures { MatchResult result
         (λ row. (row ≡ turn.now.next) × (row < end_of turn.now.window))
         (λ fault. (fault ≡ TooEarly turn.now.next) × (end_of turn.now.window ≤ turn.now.next)) }
 {
     let row = turn.next();
-    let window = turn.window();
-    if row < window.begin + window.rows.values.len() {
+    if row < turn.end() {
         Ok(row)
     } else {
         Err(Fault::TooEarly(row))
