@@ -5,7 +5,7 @@ use Rattle.std.specs.Float.Ieee.{div, of_int}
 use Rattle.evaluator.specs.Meaning.{Meaning}
 use Rattle.partition.specs.Peers.{Group}
 use Rattle.rank.specs.Groups.{graded}
-use Rattle.rank.specs.declared.fractions.Fractions.{Fractions}
+use Rattle.rank.specs.declared.fractions.FractionEvaluator.{FractionEvaluator}
 
 -- one division of two whole numbers, as doubles
 abbrev pub fraction : ℕ → ℕ → Float
@@ -29,5 +29,5 @@ fraction_meaning grade same = record {
 }
 
 -- a new evaluator of any of them
-abbrev pub new_fractions : {F V : Type 0} → Fractions F V
-new_fractions = record { kind = record {} }
+abbrev pub new_evaluator : {F V : Type 0} → FractionEvaluator F V
+new_evaluator = record { kind = record {} }

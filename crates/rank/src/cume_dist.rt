@@ -2,7 +2,7 @@
 // the planner's part is left out, the caller lends the output, and the evaluator is one with PERCENT_RANK's.
 ghost use Rattle.rank.specs.Fractions.{cume_dist};
 
-use crate::fractions::{Fraction, Fractions};
+use crate::fractions::{Fraction, FractionEvaluator};
 use crate::graded::fraction;
 
 // CUME_DIST's fraction: the rows up to the group's end, divided by the rows.
@@ -17,4 +17,4 @@ impl Fraction for CumeDistFraction {
 }
 
 // CUME_DIST.
-pub type CumeDist<K> = Fractions<CumeDistFraction, K>;
+pub type CumeDist<K> = FractionEvaluator<CumeDistFraction, K>;

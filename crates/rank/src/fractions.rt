@@ -2,7 +2,7 @@
 // and changed: PERCENT_RANK and CUME_DIST are one evaluator, over the fraction that each gives.
 ghost use Rattle.std.specs.Prelude.{◌≡◌, ℕ, true, false, List, Option, Float};
 ghost use Rattle.partition.specs.Peers.{Group};
-ghost use Rattle.rank.specs.Fractions.{fraction_meaning, new_fractions};
+ghost use Rattle.rank.specs.Fractions.{fraction_meaning, new_evaluator};
 ghost use Rattle.rank.specs.FractionsLemmas.{fraction_lawful};
 ghost use Rattle.rank.specs.Groups.{Within};
 ghost use Rattle.rank.specs.Laws.{GroupLaw};
@@ -26,20 +26,20 @@ pub trait Fraction {
 
 // The window function that answers such a fraction.
 #[derive(Drop)]
-pub struct Fractions<F, K> {
+pub struct FractionEvaluator<F, K> {
     kind: PhantomData<(F, K)>,
 }
 
-impl<F: Fraction, K: Kind> Fractions<F, K> {
-    pub fn new() -> Fractions<F, K>
-        ensures is { result ≡ new_fractions }
+impl<F: Fraction, K: Kind> FractionEvaluator<F, K> {
+    pub fn new() -> FractionEvaluator<F, K>
+        ensures is { result ≡ new_evaluator }
         ensures law { (rows : List (Option K)) → GroupLaw K.Kind.same rows }
     {
-        Fractions { kind: PhantomData }
+        FractionEvaluator { kind: PhantomData }
     }
 }
 
-impl<F: Fraction, K: Kind> Graded for Fractions<F, K> {
+impl<F: Fraction, K: Kind> Graded for FractionEvaluator<F, K> {
     type Grade = f64;
 
     ghost graded = { λ e. F.Fraction.fraction };
@@ -49,7 +49,7 @@ impl<F: Fraction, K: Kind> Graded for Fractions<F, K> {
     }
 }
 
-impl<F: Fraction, K: Kind> Evaluator for Fractions<F, K> {
+impl<F: Fraction, K: Kind> Evaluator for FractionEvaluator<F, K> {
     type Value = K;
 
     type Answer = f64;
@@ -64,12 +64,12 @@ impl<F: Fraction, K: Kind> Evaluator for Fractions<F, K> {
 
     ghost meaning = { λ e. fraction_meaning F.Fraction.fraction K.Kind.same };
 
-    ghost renewed = { λ e. new_fractions };
+    ghost renewed = { λ e. new_evaluator };
 
     ghost lawful = { λ e. fraction_lawful F.Fraction.fraction K.Kind.same };
 
-    fn fresh(&self) -> Fractions<F, K> {
-        Fractions::new()
+    fn fresh(&self) -> FractionEvaluator<F, K> {
+        FractionEvaluator::new()
     }
 
     fn evaluate_all<O: Output<f64>>(

@@ -6,7 +6,7 @@ ghost use Rattle.rank.specs.Laws.{RankLaw};
 ghost use Rattle.rank.specs.Ranks.{rank_graded, rank_meaning, new_rank, rank_renewed, rank_held, rank_stepped, rank_settling};
 ghost use Rattle.rank.specs.RanksLemmas.{rank_lawful};
 
-use crate::fractions::{Fraction, Fractions};
+use crate::fractions::{Fraction, FractionEvaluator};
 use crate::graded::{Graded, evaluate_graded, fraction};
 use crate::shown::row_shown;
 use crate::state::RankState;
@@ -128,4 +128,4 @@ impl Fraction for PercentRankFraction {
 }
 
 // PERCENT_RANK.
-pub type PercentRank<K> = Fractions<PercentRankFraction, K>;
+pub type PercentRank<K> = FractionEvaluator<PercentRankFraction, K>;
