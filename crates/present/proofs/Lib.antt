@@ -1,5 +1,6 @@
 pub mod Counts
 pub mod Ahead
 pub mod Behind
+pub mod Chains
 pub mod Parts
 pub mod Counting
