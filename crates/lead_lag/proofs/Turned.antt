@@ -1,9 +1,9 @@
 -- The opposite offset on turned rows.
-use Rattle.std.proofs.Common.{◌≡◌, ℕ, zero, suc, ◌+◌, ◌-◌, ◌<◌, ◌≤◌, Bool, true, false, cond, ltb, leb, List, [], ◌∷◌, map, reverse, length, get_or, ℤ, pos, negsuc, neg_ℤ, is_some, Some, None, Option, sym, refl, ap, ◌∙◌, ⊎_elim, arith, w64, SFits}
+use Rattle.std.proofs.Common.{◌≡◌, ℕ, zero, suc, ◌+◌, ◌-◌, ◌<◌, ◌≤◌, Bool, true, false, cond, ltb, leb, List, ◌∷◌, map, reverse, length, get_or, ℤ, pos, negsuc, neg_ℤ, is_some, Some, None, Option, sym, refl, ap, ◌∙◌, ⊎_elim, arith, w64, SFits}
 use Rattle.std.specs.Option.{option_map}
 use Rattle.std.specs.List.{slice_get}
 use Rattle.std.proofs.lemmas.List.{get_or-reverse, length-reverse, reverse-reverse}
-use Rattle.std.proofs.lemmas.Option.{slice_get_past}
+use Rattle.std.proofs.lemmas.Option.{slice_get-map, slice_get_past}
 use Rattle.std.proofs.lemmas.Bool.{cond-true, cond-false, cases_lt, lt-ltb, le-ltb, le-leb, lt-leb}
 use Rattle.lead_lag.specs.declared.offset.Way.{Way}
 use Rattle.lead_lag.specs.declared.offset.Way.TheVariants.{Own, Back, Ahead}
@@ -13,8 +13,7 @@ use Rattle.lead_lag.specs.Offset.{way_of}
 use Rattle.present.specs.Present.{at, before, ahead, after}
 use Rattle.lead_lag.specs.Shift.{Proper, row_off, present_off, source_row, taken, shifted}
 use Rattle.present.proofs.Counts.{number_of}
-use Rattle.lead_lag.specs.Fronts.{source_below}
-use Rattle.lead_lag.specs.Holds.{way_proper}
+use Rattle.lead_lag.specs.Fronts.{way_proper, source_below}
 
 -- the row that row r of n becomes
 abbrev turn : ℕ → ℕ → ℕ
@@ -68,11 +67,6 @@ module _ {V : Type 0} (cs : List (Option V)) where
       both true x i t xs ys e q = ap (λ (k : ℕ). k ∷ xs) e ∙ ap (λ (zs : List ℕ). t i ∷ zs) q
       both false x i t xs ys e q = q
 
-nth-map : (t : ℕ → ℕ) (xs : List ℕ) (k : ℕ) → slice_get (map t xs) k ≡ option_map t (slice_get xs k)
-nth-map t [] k = refl
-nth-map t (x ∷ xs) zero = refl
-nth-map t (x ∷ xs) (suc k) = nth-map t xs k
-
 -- turning twice changes nothing
 turn_twice : (n : ℕ) (o : Option ℕ) → ((r : ℕ) → o ≡ Some r → r < n) → option_map (turn n) (option_map (turn n) o) ≡ o
 turn_twice n None h = refl
@@ -90,7 +84,7 @@ module _ {V : Type 0} (cs : List (Option V)) (i : ℕ) (lt : i < length cs) wher
   back_turned k =
       let a : turn n i + 1 ≡ n - i = omega arith in
       let b : length (reverse cs) - (turn n i + 1) ≡ i = omega (arith, long) in
-      ap (λ (x : ℕ). slice_get (ahead (at (reverse cs)) (turn n i + 1) x) k) b ∙ (ap (λ (x : ℕ). slice_get (ahead (at (reverse cs)) x i) k) a ∙ (ap (λ (xs : List ℕ). slice_get xs k) (before_turned cs i (omega arith)) ∙ nth-map (turn n) (before (at cs) i) k))
+      ap (λ (x : ℕ). slice_get (ahead (at (reverse cs)) (turn n i + 1) x) k) b ∙ (ap (λ (x : ℕ). slice_get (ahead (at (reverse cs)) x i) k) a ∙ (ap (λ (xs : List ℕ). slice_get xs k) (before_turned cs i (omega arith)) ∙ slice_get-map (turn n) (before (at cs) i) k))
 
 -- looking ahead from row i is looking back from the row that it becomes
 ahead-turned : {V : Type 0} (cs : List (Option V)) (i : ℕ) → i < length cs → (k : ℕ) → slice_get (before (at (reverse cs)) (turn (length cs) i)) k ≡ option_map (turn (length cs)) (slice_get (after cs i) k)

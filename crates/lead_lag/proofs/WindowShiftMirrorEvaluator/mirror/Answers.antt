@@ -1,4 +1,4 @@
-use Rattle.std.proofs.Common.{◌≡◌, ◌-◌, Bool, false, ℤ, sym, ap, subst, w64, SFits}
+use Rattle.std.proofs.Common.{◌≡◌, ◌-◌, Bool, false, ℤ, sym, ap, subst, w64, SFits, rules}
 use Rattle.partition.specs.Table.{row_count}
 use Rattle.evaluator.specs.Meaning.{partition}
 use Rattle.evaluator.specs.Mirror.{Mirror, turned}
@@ -9,7 +9,7 @@ use Rattle.evaluator.proofs.Opposites.{opposite_twice}
 use Rattle.lead_lag.specs.Offset.{way_of}
 use Rattle.lead_lag.specs.Shift.{shift_meaning, shift_mirrored, shift_renewed, shifted}
 use Rattle.present.specs.Counting.{start}
-use Rattle.lead_lag.specs.Holds.{fresh_holds}
+use Rattle.lead_lag.proofs.Holds.{fresh_holds}
 use Rattle.lead_lag.proofs.Turned.{shifted-turned}
 use Rattle.lead_lag.proofs.WindowShiftMirrorEvaluator.mirror.Goals as goal
 
@@ -24,4 +24,8 @@ module _ {V : Type 0} (same : V → V → Bool) (e : WindowShift V) (f : SFits w
   }
 
 pub returns : goal.returns
-returns g c = mirrors g.K.Kind.same c.args.self.now c.turned.ensures.fits c.turned.result c.turned.ensures.is
+returns g c =
+    let e = c.args.self.now in
+    let f : SFits w64 e.shift_offset = search rules in
+    let is : c.renewed.result ≡ shift_mirrored e = search rules in
+    mirrors g.K.Kind.same e f c.renewed.result is
