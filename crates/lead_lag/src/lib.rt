@@ -3,7 +3,8 @@
 // stands for the queue of distances between present rows.
 #![tactic(auto)]
 
-ghost use Rattle.std.specs.Prelude.{◌≡◌, false};
+ghost use Rattle.std.specs.Prelude.{◌≡◌, false, FitsSigned};
+ghost use Rattle.std.specs.Int.{w64};
 ghost use Rattle.lead_lag.specs.Cases.{Cases};
 ghost use Rattle.lead_lag.specs.Offset.{way_of};
 ghost use Rattle.lead_lag.specs.Shift.{shift_meaning, renewed_with, shift_renewed, shift_mirrored, making};
@@ -70,6 +71,14 @@ impl<K: Kind> WindowShift<K> {
             held: Held::START,
             ..*self
         }
+    }
+
+    // The same shift from the other end of a partition.
+    fn turned(&self) -> WindowShift<K>
+        ensures is { result ≡ shift_mirrored self.now }
+        ensures fits { FitsSigned w64 self.now.shift_offset }
+    {
+        self.renewed(opposite(self.shift_offset))
     }
 
     // Where it looks.
@@ -158,7 +167,7 @@ impl<K: Kind> MirrorEvaluator for WindowShift<K> {
     ghost mirrored = { shift_mirrored };
 
     fn mirror(&self) -> WindowShift<K> {
-        self.renewed(opposite(self.shift_offset))
+        self.turned()
     }
 }
 

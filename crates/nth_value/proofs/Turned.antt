@@ -4,13 +4,12 @@ use mathlib.Core.List.{reverse_aux}
 use Rattle.std.specs.Option.{option_map}
 use Rattle.std.specs.List.{slice_get}
 use Rattle.std.proofs.lemmas.List.{get_or-reverse, length-reverse, reverse-reverse}
-use Rattle.std.proofs.lemmas.Option.{slice_get_past}
+use Rattle.std.proofs.lemmas.Option.{slice_get-map, slice_get_past}
 use Rattle.column.specs.Cells.{cells}
 use Rattle.column.specs.Refusal.{row_limit}
 use Rattle.column.proofs.Cells.{length-cells}
 use Rattle.partition.specs.Table.{Frame, Input, row_count, whole_refusal}
 use Rattle.partition.proofs.Accepted.{whole_says}
-use Rattle.evaluator.specs.Arguments.{opposite}
 use Rattle.evaluator.specs.Meaning.{partition}
 use Rattle.evaluator.specs.Mirror.{turned, turned_frame}
 use Rattle.evaluator.proofs.Opposites.{opposite_is}
@@ -35,11 +34,6 @@ abbrev pub turned_pick : Pick → Pick
 turned_pick Nothing = Nothing
 turned_pick (FromStart m) = FromEnd m
 turned_pick (FromEnd m) = FromStart m
-
-nth-map : (t : ℕ → ℕ) (xs : List ℕ) (k : ℕ) → slice_get (map t xs) k ≡ option_map t (slice_get xs k)
-nth-map t [] k = refl
-nth-map t (x ∷ xs) zero = refl
-nth-map t (x ∷ xs) (suc k) = nth-map t xs k
 
 both : (b : Bool) (x i : ℕ) (t : ℕ → ℕ) (xs ys : List ℕ) → x ≡ t i → xs ≡ map t ys → cond b (x ∷ xs) xs ≡ map t (cond b (i ∷ ys) ys)
 both true x i t xs ys e q = ap (λ (k : ℕ). k ∷ xs) e ∙ ap (λ (zs : List ℕ). t i ∷ zs) q
@@ -86,8 +80,8 @@ module _ {V : Type 0} (cs : List (Option V)) where
   -- the row counted to
   pick_turned : (pick : Pick) (xs : List ℕ) → picked (turned_pick pick) (map (turn n) (reverse xs)) ≡ option_map (turn n) (picked pick xs)
   pick_turned Nothing xs = refl
-  pick_turned (FromStart m) xs = ap (λ (ys : List ℕ). slice_get ys (m - 1)) (reverse-map (turn n) xs) ∙ nth-map (turn n) xs (m - 1)
-  pick_turned (FromEnd m) xs = nth-map (turn n) (reverse xs) (m - 1)
+  pick_turned (FromStart m) xs = ap (λ (ys : List ℕ). slice_get ys (m - 1)) (reverse-map (turn n) xs) ∙ slice_get-map (turn n) xs (m - 1)
+  pick_turned (FromEnd m) xs = slice_get-map (turn n) (reverse xs) (m - 1)
 
   cell_turned : (o : Option ℕ) → ((r : ℕ) → o ≡ Some r → r < n) → cell_of (at (reverse cs)) (option_map (turn n) o) ≡ cell_of (at cs) o
   cell_turned None h = refl
@@ -124,24 +118,24 @@ negated_nth (pos zero) = refl
 negated_nth (pos (suc n)) = refl
 negated_nth (negsuc n) = refl
 
-pick_opposite : (kind : NthValueKind) (z : ℤ) → SFits w64 z → (pick_of (turned_kind kind) (opposite z) ≡ turned_pick (pick_of kind z)) ⊎ ((pick_of (turned_kind kind) (opposite z) ≡ FromEnd far) × (pick_of kind z ≡ FromEnd far))
-pick_opposite First z f = inl refl
-pick_opposite Last z f = inl refl
-pick_opposite Nth z f = ⊎_elim
+pick_opposite : (kind : NthValueKind) → ((z : ℤ) → kind ≡ Nth z → SFits w64 z) → (pick_of (turned_kind kind) ≡ turned_pick (pick_of kind)) ⊎ ((pick_of (turned_kind kind) ≡ FromEnd far) × (pick_of kind ≡ FromEnd far))
+pick_opposite First f = inl refl
+pick_opposite Last f = inl refl
+pick_opposite (Nth z) f = ⊎_elim
     (λ e. inl (ap pick_nth e ∙ negated_nth z))
     (λ e. inr (ap pick_nth (e.1 ∙ e.0), ap pick_nth e.0))
-    (opposite_is z f)
+    (opposite_is z (f z refl))
 
 -- the mirror's answer at row n - 1 - i of the turned partition is the evaluator's at row i
-pub nth-turned : {V : Type 0} (same : V → V → Bool) (kind : NthValueKind) (z : ℤ) (ignoring : Bool) → SFits w64 z → (x : Input V) (size : ℕ) → whole_refusal same true false x size ≡ None → (i : ℕ) → i < row_count x → nth_answer (pick_of (turned_kind kind) (opposite z)) ignoring (partition true (turned same x)) (row_count x - 1 - i) ≡ nth_answer (pick_of kind z) ignoring (partition true x) i
-nth-turned {V} same kind z ignoring fits x size ok i h =
+pub nth-turned : {V : Type 0} (same : V → V → Bool) (kind : NthValueKind) (ignoring : Bool) → ((z : ℤ) → kind ≡ Nth z → SFits w64 z) → (x : Input V) (size : ℕ) → whole_refusal same true false x size ≡ None → (i : ℕ) → i < row_count x → nth_answer (pick_of (turned_kind kind)) ignoring (partition true (turned same x)) (row_count x - 1 - i) ≡ nth_answer (pick_of kind) ignoring (partition true x) i
+nth-turned {V} same kind ignoring fits x size ok i h =
     let a = whole_says same true false x size ok in
     let cs : List (Option V) = cells x.values x.marks in
     let long : length cs ≡ row_count x = length-cells x.values x.marks a.lengths in
     let f : Frame = get_or x.frames i (0, 0) in
     let fit = a.fit i (omega (arith, a.framed refl)) in
-    let there : Pick = pick_of (turned_kind kind) (opposite z) in
-    let here : Pick = pick_of kind z in
+    let there : Pick = pick_of (turned_kind kind) in
+    let here : Pick = pick_of kind in
     let moved : nth_answer there ignoring (partition true (turned same x)) (row_count x - 1 - i) ≡ value_in there ignoring (at (reverse cs)) (length cs - f.1, length cs - f.0) =
     ap (λ (rows : List (Option V)). value_in there ignoring (at rows) (get_or (map (turned_frame (row_count x)) (reverse x.frames)) (row_count x - 1 - i) (0, 0))) (cells-turned x.values x.marks a.lengths)
     ∙ (ap (value_in there ignoring (at (reverse cs))) (frame-turned (row_count x) x.frames i (a.framed refl) h)
@@ -149,4 +143,4 @@ nth-turned {V} same kind z ignoring fits x size ok i h =
     moved ∙ ⊎_elim
     (λ e. ap (λ (p : Pick). value_in p ignoring (at (reverse cs)) (length cs - f.1, length cs - f.0)) e ∙ value_turned cs here ignoring f.0 f.1 fit.0 (omega (arith, fit.1, long)))
     (λ e. ap (λ (p : Pick). value_in p ignoring (at (reverse cs)) (length cs - f.1, length cs - f.0)) e.0 ∙ (far_none ignoring (at (reverse cs)) (length cs - f.1) (length cs - f.0) (omega (arith, long, a.limited)) ∙ sym (ap (λ (p : Pick). value_in p ignoring (at cs) f) e.1 ∙ far_none ignoring (at cs) f.0 f.1 (omega (arith, fit.1, a.limited)))))
-    (pick_opposite kind z fits)
+    (pick_opposite kind fits)

@@ -8,7 +8,7 @@ use Rattle.present.proofs.Ahead.{ahead-number}
 use Rattle.present.proofs.Behind.{behind_push}
 
 -- of the present rows before row e, those from row s on
-cut : (s : ℕ) (o : Option ℕ) → ((r : ℕ) → o ≡ Some r → r < s) → None ≡ from_on s o
+pub cut : (s : ℕ) (o : Option ℕ) → ((r : ℕ) → o ≡ Some r → r < s) → None ≡ from_on s o
 cut s None h = refl
 cut s (Some r) h = sym (cond-false (leb s r) (Some r) None (lt-leb s r (h r refl)))
 

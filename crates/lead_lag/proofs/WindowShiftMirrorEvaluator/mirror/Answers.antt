@@ -1,4 +1,4 @@
-use Rattle.std.proofs.Common.{◌≡◌, ◌-◌, Bool, false, ℤ, sym, ap, subst, w64, SFits, rules}
+use Rattle.std.proofs.Common.{◌≡◌, ◌-◌, Bool, false, ℤ, sym, ap, subst, w64, SFits}
 use Rattle.partition.specs.Table.{row_count}
 use Rattle.evaluator.specs.Meaning.{partition}
 use Rattle.evaluator.specs.Mirror.{Mirror, turned}
@@ -24,8 +24,4 @@ module _ {V : Type 0} (same : V → V → Bool) (e : WindowShift V) (f : SFits w
   }
 
 pub returns : goal.returns
-returns g c =
-    let e = c.args.self.now in
-    let f : SFits w64 e.shift_offset = search rules in
-    let is : c.renewed.result ≡ shift_mirrored e = search rules in
-    mirrors g.K.Kind.same e f c.renewed.result is
+returns g c = mirrors g.K.Kind.same c.args.self.now c.turned.ensures.fits c.turned.result c.turned.ensures.is
