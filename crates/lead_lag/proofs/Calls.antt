@@ -1,16 +1,19 @@
 -- A row call of a shift: what its window shows, and what it then gives.
-use Rattle.std.proofs.Common.{◌≡◌, ℕ, ◌+◌, ◌-◌, ◌<◌, ◌≤◌, Bool, true, false, cond, not, ◌||◌, T, ltb, leb, List, length, take, is_some, Some, None, Ok, Err, Option, sym, refl, ap, ◌∙◌, subst, ⊎_elim, arith}
+use Rattle.std.proofs.Common.{◌≡◌, ℕ, ◌+◌, ◌-◌, ◌<◌, ◌≤◌, Bool, true, false, cond, not, ◌||◌, T, ltb, leb, List, length, take, is_some, Some, None, Ok, Err, Option, Result, sym, refl, ap, ◌∙◌, subst, ⊎_elim, arith}
 use Rattle.std.specs.List.{slice_get}
 use Rattle.std.proofs.lemmas.List.{take_all}
 use Rattle.std.proofs.lemmas.Option.{cond_some, same_Some}
 use Rattle.std.proofs.lemmas.Bool.Decides.{nat_tests}
 use Rattle.std.proofs.lemmas.Bool.{cases_Bool, cond-false, ltb-true}
+use Rattle.column.specs.declared.fault.Fault.{Fault}
 use Rattle.column.specs.declared.fault.Fault.TheVariants.{TooEarly}
 use Rattle.column.specs.declared.column.Window.{Window}
 use Rattle.column.specs.Cells.{view}
 use Rattle.partition.specs.Table.{Frame}
 use Rattle.run.specs.Shown.{end_of}
-use Rattle.evaluator.specs.Meaning.{Partition, Alike, settles}
+use Rattle.evaluator.specs.Meaning.{Partition, Alike, WholeCall, settles}
+use Rattle.column.specs.Refusal.{passes}
+use Rattle.std.specs.Result.{is_err}
 use Rattle.run.specs.Rows.{Handed, Asks, RowCall}
 use Rattle.evaluator.proofs.Settles.{settled_no, settled_yes}
 use Rattle.run.proofs.Seen.{seen_rows, seen_view, given_ok, given_early}
@@ -25,7 +28,7 @@ use Rattle.lead_lag.specs.Shift.{Proper, source_row, taken, shifted, reaches, ma
 use Rattle.lead_lag.specs.Steps.{source_by, waits, held_after}
 use Rattle.present.proofs.Ahead.{ahead-number, ahead-same, before_same, nth_has}
 use Rattle.present.proofs.Counting.{counted-source}
-use Rattle.lead_lag.specs.Fronts.{way_proper, Front, front_take, source_front}
+use Rattle.lead_lag.specs.Fronts.{way_proper, taken_same, Front, front_take, source_front}
 use Rattle.lead_lag.proofs.Holds.{holds_after, mark_below, mark_rises}
 
 cond_else : (b : Bool) (x r : ℕ) → cond b None (Some x) ≡ Some r → (b ≡ false) × (x ≡ r)
@@ -76,10 +79,6 @@ waits_is (Ahead m) ignoring false xs i p = ap not (reaches-source m ignoring xs 
 reached : (known b : Bool) → not (known || b) ≡ false → known ≡ false → b ≡ true
 reached known b h k = grind (arith, nat_tests)
 
-taken-same : {V : Type 0} (f g : ℕ → Option V) (d : Option V) (s : Option ℕ) → ((r : ℕ) → s ≡ Some r → f r ≡ g r) → taken f d s ≡ taken g d s
-taken-same f g d None h = refl
-taken-same f g d (Some r) h = h r refl
-
 alike : {V : Type 0} (e : WindowShift V) (h : Held) → Alike (shift_meaning e) (shift_meaning (record { shift_offset = e.shift_offset; ignore_nulls = e.ignore_nulls; default_value = e.default_value; held = h }))
 alike e h = record { answer = λ p i. refl; settled = λ rows frames known i. refl }
 
@@ -127,7 +126,7 @@ module _ {V : Type 0} (e : WindowShift V) (i : ℕ) (w : Window V) (frame : Fram
 
   answer_is : waits way source known ≡ false → taken (view w) e.default_value source ≡ shifted way ignoring e.default_value p.rows i
   answer_is y =
-      taken-same (view w) (at p.rows) e.default_value source (λ r s. let b = source_low way ignoring e.held p.rows (view w) i (end_of w) (way_proper e.shift_offset) q.stands l r s in agree r (omega (arith, h.kept, b.0)) b.1) ∙ ap (taken (at p.rows) e.default_value) (source_whole y)
+      taken_same (view w) (at p.rows) e.default_value source (λ r s. let b = source_low way ignoring e.held p.rows (view w) i (end_of w) (way_proper e.shift_offset) q.stands l r s in agree r (omega (arith, h.kept, b.0)) b.1) ∙ ap (taken (at p.rows) e.default_value) (source_whole y)
 
   stands_on : Holding way ignoring (held_after way ignoring e.held (view w) i) p.rows (i + 1)
   stands_on = holds_after way ignoring e.held p.rows i (view w) (way_proper e.shift_offset) q.stands (λ k u v. agree k (omega (arith, h.kept)) (omega (arith, l)))
@@ -169,3 +168,8 @@ module _ {V : Type 0} (e : WindowShift V) (i : ℕ) (w : Window V) (frame : Fram
 
   pub answers_by : b ≡ false → (x : Option V) → x ≡ taken (view w) e.default_value s → (h' : Held) → h' ≡ held_after z.way z.ignore_nulls e.held (view w) i → RowCall shift_meaning false i w frame known e (record { shift_offset = e.shift_offset; ignore_nulls = e.ignore_nulls; default_value = e.default_value; held = h' }) (Ok x)
   answers_by y x ex h' eh = answers e i w frame known h l (sym waits_at ∙ y) x (ex ∙ ap (taken (view w) e.default_value) source_at) h' (eh ∙ ap (λ (k : Look). held_after k.way k.ignore_nulls e.held (view w) i) ez)
+
+-- a refused call
+pub refused_call : {A S : Type 0} (stored : S → ℕ → A → S) (refusal : Option Fault) (answers : ℕ → A) (n : ℕ) (s : S) (r : Result (Unit {0}) Fault) → r ≡ passes refusal → is_err r ≡ true → WholeCall stored refusal answers n s s r
+refused_call stored None answers n s r e h = let z : ◌≡◌ {A = ℕ} 0 1 = cc in absurd (omega arith)
+refused_call stored (Some f) answers n s r e h = record { outcome = e; slots = refl }

@@ -1,5 +1,5 @@
 -- A column as the window that shows all of it.
-use Rattle.std.proofs.Common.{◌≡◌, ℕ, ◌+◌, ◌-◌, ◌<◌, Bool, true, List, length, Some, None, Option, refl, sym, ap, ◌∙◌, subst, arith}
+use Rattle.std.proofs.Common.{◌≡◌, ℕ, ◌+◌, ◌-◌, ◌<◌, Bool, true, List, length, Option, refl, sym, ap, ◌∙◌, subst, arith}
 use Rattle.std.specs.List.{slice_get}
 use Rattle.column.specs.declared.column.Column.{Column}
 use Rattle.column.specs.declared.column.Window.{Window}
@@ -12,6 +12,7 @@ use Rattle.present.specs.Present.{at, ahead}
 use Rattle.lead_lag.specs.Shift.{Proper, taken, shifted, Holding}
 use Rattle.lead_lag.specs.Steps.{source_by, held_after}
 use Rattle.present.proofs.Ahead.{ahead-same}
+use Rattle.lead_lag.specs.Fronts.{taken_same}
 use Rattle.lead_lag.proofs.Holds.{holds_after}
 use Rattle.lead_lag.proofs.Calls.{source_seen}
 
@@ -24,8 +25,7 @@ module _ {V : Type 0} (c : Column V) where
   rows = column_cells c
 
   taken_all : (d : Option V) (s : Option ℕ) → taken (view all) d s ≡ taken (at rows) d s
-  taken_all d None = refl
-  taken_all d (Some r) = view-all c r
+  taken_all d s = taken_same (view all) (at rows) d s (λ r q. view-all c r)
 
   -- by what is held
   pub held_answer : (way : Way) (ignoring : Bool) (d : Option V) (h : Held) (n i : ℕ) (s : Option ℕ) (x : Option V) → Proper way → length rows ≡ n → i < n → Holding way ignoring h rows i → s ≡ source_by way ignoring h (view all) i n → x ≡ taken (view all) d s → x ≡ shifted way ignoring d rows i

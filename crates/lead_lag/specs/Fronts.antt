@@ -36,6 +36,11 @@ way_proper (pos zero) = tt
 way_proper (pos (suc n)) = omega arith
 way_proper (negsuc n) = omega arith
 
+-- cells that agree on the source row
+pub taken_same : {V : Type 0} (f g : ℕ → Option V) (d : Option V) (s : Option ℕ) → ((r : ℕ) → s ≡ Some r → f r ≡ g r) → taken f d s ≡ taken g d s
+taken_same f g d None h = refl
+taken_same f g d (Some r) h = h r refl
+
 module _ {V : Type 0} (xs rows : List (Option V)) (fr : Front xs rows) (i : ℕ) (lt : i < length xs) where
   -- present rows after row i that the first rows have
   after_front : (j r : ℕ) → slice_get (after xs i) j ≡ Some r → slice_get (after rows i) j ≡ Some r
@@ -74,11 +79,7 @@ module _ {V : Type 0} (xs rows : List (Option V)) (fr : Front xs rows) (i : ℕ)
       let d = nth-within (after xs i) (m - 1) (omega arith) in
       le-leb m (length (after rows i)) (omega (arith, slice_get_within (after rows i) (m - 1) d.0 (after_front (m - 1) d.0 d.1)))
 
-  taken_front : (d : Option V) (s : Option ℕ) → ((r : ℕ) → s ≡ Some r → r < length xs) → taken (at xs) d s ≡ taken (at rows) d s
-  taken_front d None b = refl
-  taken_front d (Some r) b = fr.same r (b r refl)
-
   -- so the answer is the same
   pub answer_front : (way : Way) (ignoring : Bool) (d : Option V) → Proper way → reaches way ignoring xs i ≡ true → shifted way ignoring d xs i ≡ shifted way ignoring d rows i
   answer_front way ignoring d p h =
-      taken_front d (source_row way ignoring xs i) (source_below way ignoring p) ∙ ap (taken (at rows) d) (source_front way ignoring p h)
+      taken_same (at xs) (at rows) d (source_row way ignoring xs i) (λ r q. fr.same r (source_below way ignoring p r q)) ∙ ap (taken (at rows) d) (source_front way ignoring p h)

@@ -123,6 +123,7 @@ impl<K: Kind> Evaluator for WindowShift<K> {
         self.renewed(self.shift_offset)
     }
 
+    #[tactic(auto, using(crate::proofs::Calls::refused_call))]
     fn evaluate_all<O: Output<Option<K>>>(
         &self,
         rows: &WholePartition<'_, K>,

@@ -1,9 +1,9 @@
 -- The same function from the other end, on turned rows and frames.
-use Rattle.std.proofs.Common.{◌≡◌, ℕ, zero, suc, ◌+◌, ◌-◌, ◌<◌, ◌≤◌, Bool, true, false, cond, ◌⊎◌, List, [], ◌∷◌, map, reverse, length, get_or, ℤ, pos, negsuc, neg_ℤ, is_some, Some, None, Option, sym, refl, ap, ◌∙◌, inl, inr, ⊎_elim, arith, w64, SFits}
+use Rattle.std.proofs.Common.{◌≡◌, ℕ, zero, suc, ◌+◌, ◌-◌, ◌<◌, ◌≤◌, Bool, true, false, ◌⊎◌, List, [], ◌∷◌, map, reverse, length, get_or, ℤ, pos, negsuc, neg_ℤ, is_some, Some, None, Option, sym, refl, ap, ◌∙◌, inl, inr, ⊎_elim, arith, w64, SFits}
 use mathlib.Core.List.{reverse_aux}
 use Rattle.std.specs.Option.{option_map}
 use Rattle.std.specs.List.{slice_get}
-use Rattle.std.proofs.lemmas.List.{get_or-reverse, length-reverse, reverse-reverse}
+use Rattle.std.proofs.lemmas.List.{length-reverse, reverse-reverse}
 use Rattle.std.proofs.lemmas.Option.{slice_get-map, slice_get_past}
 use Rattle.column.specs.Cells.{cells}
 use Rattle.column.specs.Refusal.{row_limit}
@@ -15,7 +15,7 @@ use Rattle.evaluator.specs.Mirror.{turned, turned_frame}
 use Rattle.evaluator.proofs.Opposites.{opposite_is}
 use Rattle.evaluator.proofs.Turned.{cells-turned, frame-turned}
 use Rattle.present.specs.Present.{at, ahead}
-use Rattle.present.proofs.Behind.{behind_push}
+use Rattle.present.proofs.Turned.{turn, at_turned, ahead-turned, ahead_short}
 use Rattle.nth_value.specs.declared.kind.NthValueKind.{NthValueKind}
 use Rattle.nth_value.specs.declared.kind.NthValueKind.TheVariants.{First, Last, Nth}
 use Rattle.nth_value.specs.declared.kind.Pick.{Pick}
@@ -25,29 +25,11 @@ use Rattle.nth_value.specs.Nth.{nth_answer, turned_kind}
 use Rattle.nth_value.specs.Spans.{full, span-full}
 use Rattle.nth_value.specs.Local.{picked-within}
 
--- the row that row r of n becomes
-abbrev turn : ℕ → ℕ → ℕ
-turn n r = n - 1 - r
-
 -- from the start becomes from the end
 abbrev pub turned_pick : Pick → Pick
 turned_pick Nothing = Nothing
 turned_pick (FromStart m) = FromEnd m
 turned_pick (FromEnd m) = FromStart m
-
-both : (b : Bool) (x i : ℕ) (t : ℕ → ℕ) (xs ys : List ℕ) → x ≡ t i → xs ≡ map t ys → cond b (x ∷ xs) xs ≡ map t (cond b (i ∷ ys) ys)
-both true x i t xs ys e q = ap (λ (k : ℕ). k ∷ xs) e ∙ ap (λ (zs : List ℕ). t i ∷ zs) q
-both false x i t xs ys e q = q
-
--- the present rows of a stretch, turned, are those of the turned stretch from its last
-ahead-turned : {V W : Type 0} (n : ℕ) (f : ℕ → Option V) (g : ℕ → Option W) → ((r : ℕ) → r < n → is_some (g (turn n r)) ≡ is_some (f r)) → (s k : ℕ) → s + k ≤ n → ahead g (n - (s + k)) k ≡ map (turn n) (reverse (ahead f s k))
-ahead-turned n f g same s zero h = refl
-ahead-turned n f g same s (suc k) h =
-    let here : n - (s + suc k) ≡ turn n (s + k) = omega arith in
-    let on : n - (s + suc k) + 1 ≡ n - (s + k) = omega arith in
-    let cell : is_some (g (n - (s + suc k))) ≡ is_some (f (s + k)) = ap (λ (x : ℕ). is_some (g x)) here ∙ same (s + k) (omega arith) in
-    let rest : ahead g (n - (s + suc k) + 1) k ≡ map (turn n) (reverse (ahead f s k)) = ap (λ (x : ℕ). ahead g x k) on ∙ ahead-turned n f g same s k (omega arith) in
-    ap (λ (b : Bool). cond b ((n - (s + suc k)) ∷ ahead g (n - (s + suc k) + 1) k) (ahead g (n - (s + suc k) + 1) k)) cell ∙ (both (is_some (f (s + k))) (n - (s + suc k)) (s + k) (turn n) (ahead g (n - (s + suc k) + 1) k) (reverse (ahead f s k)) here rest ∙ sym (ap (map (turn n)) (behind_push f s k)))
 
 stretch_turned : {V W : Type 0} (n : ℕ) (f : ℕ → Option V) (g : ℕ → Option W) → ((r : ℕ) → r < n → is_some (g (turn n r)) ≡ is_some (f r)) → (s e : ℕ) → s ≤ e → e ≤ n → ahead g (n - e) (n - s - (n - e)) ≡ map (turn n) (reverse (ahead f s (e - s)))
 stretch_turned n f g same s e h l =
@@ -66,16 +48,10 @@ module _ {V : Type 0} (cs : List (Option V)) where
   abbrev n : ℕ
   n = length cs
 
-  -- a row's cell is that of the row that it becomes
-  at_turned : (r : ℕ) → r < n → at (reverse cs) (turn n r) ≡ at cs r
-  at_turned r h =
-      let e : n - 1 - (n - 1 - r) ≡ r = omega arith in
-      get_or-reverse cs (n - 1 - r) None (omega arith) ∙ ap (λ (k : ℕ). get_or cs k None) e
-
   -- the rows of a frame, turned
   rows-turned : (ignoring : Bool) (s e : ℕ) → s ≤ e → e ≤ n → frame_rows ignoring (at (reverse cs)) (n - e, n - s) ≡ map (turn n) (reverse (frame_rows ignoring (at cs) (s, e)))
   rows-turned false s e h l = span-full (n - e) (n - s - (n - e)) ∙ (stretch_turned n full full (λ r u. refl) s e h l ∙ ap (λ (xs : List ℕ). map (turn n) (reverse xs)) (sym (span-full s (e - s))))
-  rows-turned true s e h l = stretch_turned n (at cs) (at (reverse cs)) (λ r u. ap is_some (at_turned r u)) s e h l
+  rows-turned true s e h l = stretch_turned n (at cs) (at (reverse cs)) (λ r u. ap is_some (at_turned cs r u)) s e h l
 
   -- the row counted to
   pick_turned : (pick : Pick) (xs : List ℕ) → picked (turned_pick pick) (map (turn n) (reverse xs)) ≡ option_map (turn n) (picked pick xs)
@@ -85,7 +61,7 @@ module _ {V : Type 0} (cs : List (Option V)) where
 
   cell_turned : (o : Option ℕ) → ((r : ℕ) → o ≡ Some r → r < n) → cell_of (at (reverse cs)) (option_map (turn n) o) ≡ cell_of (at cs) o
   cell_turned None h = refl
-  cell_turned (Some r) h = at_turned r (h r refl)
+  cell_turned (Some r) h = at_turned cs r (h r refl)
 
   -- the answer over a frame
   pub value_turned : (pick : Pick) (ignoring : Bool) (s e : ℕ) → s ≤ e → e ≤ n → value_in (turned_pick pick) ignoring (at (reverse cs)) (n - e, n - s) ≡ value_in pick ignoring (at cs) (s, e)
@@ -95,14 +71,6 @@ module _ {V : Type 0} (cs : List (Option V)) where
 -- the smallest number is its own opposite, and counts further than any partition has rows
 abbrev far : ℕ
 far = 9223372036854775808
-
-cond_short : (b : Bool) (x k : ℕ) (xs : List ℕ) → length xs ≤ k → length (cond b (x ∷ xs) xs) ≤ suc k
-cond_short true x k xs h = omega arith
-cond_short false x k xs h = omega arith
-
-ahead_short : {V : Type 0} (f : ℕ → Option V) (s k : ℕ) → length (ahead f s k) ≤ k
-ahead_short f s zero = omega arith
-ahead_short f s (suc k) = cond_short (is_some (f s)) s k (ahead f (s + 1) k) (ahead_short f (s + 1) k)
 
 rows_short : {V : Type 0} (ignoring : Bool) (f : ℕ → Option V) (s e : ℕ) → length (frame_rows ignoring f (s, e)) ≤ e
 rows_short false f s e = omega (arith, ap length (span-full s (e - s)), ahead_short full s (e - s))

@@ -4,10 +4,10 @@ use Rattle.std.proofs.Common.{sym, ◌∙◌, ap, ⊎_elim, arith}
 use Rattle.std.specs.List.{slice_get}
 use Rattle.std.proofs.lemmas.Bool.{cases_lt, leb-true}
 use Rattle.std.proofs.lemmas.Option.{cond_some}
-use Rattle.present.specs.Present.{before, ahead, from_on}
+use Rattle.present.specs.Present.{before, ahead}
 use Rattle.present.proofs.Counts.{number_of}
 use Rattle.present.proofs.Ahead.{ahead-number, ahead-same}
-use Rattle.present.proofs.Parts.{behind-before}
+use Rattle.present.proofs.Parts.{from_on, behind-before}
 use Rattle.nth_value.specs.declared.kind.Pick.{Pick}
 use Rattle.nth_value.specs.declared.kind.Pick.TheVariants.{Nothing, FromStart, FromEnd}
 use Rattle.nth_value.specs.Frames.{frame_rows, picked, cell_of, value_in}

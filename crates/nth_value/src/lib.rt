@@ -79,6 +79,7 @@ impl<K: Kind> NthValue<K> {
     }
 
     // The keep mark before the first row; until settling raises it, it is the last frame's start.
+    #[tactic(auto, using(crate::proofs::Marks::mark_law))]
     pub fn first_mark() -> usize
         ensures is { result ≡ 0 }
         ensures law { MarkLaw K }
@@ -146,6 +147,7 @@ impl<K: Kind> Evaluator for NthValue<K> {
         NthValue::new(self.kind, self.ignore_nulls)
     }
 
+    #[tactic(auto, using(crate::proofs::Calls::refused_call))]
     fn evaluate_all<O: Output<Option<K>>>(
         &self,
         rows: &WholePartition<'_, K>,

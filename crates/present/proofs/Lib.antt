@@ -3,4 +3,5 @@ pub mod Ahead
 pub mod Behind
 pub mod Chains
 pub mod Parts
+pub mod Turned
 pub mod Counting

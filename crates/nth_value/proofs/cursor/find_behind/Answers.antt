@@ -1,6 +1,6 @@
 use Rattle.std.proofs.Common.{◌≡◌, ℕ, sym, subst, arith, rules}
-use Rattle.present.specs.Present.{from_on}
 use Rattle.present.specs.Counting.{Counting}
+use Rattle.present.proofs.Parts.{from_on}
 use Rattle.nth_value.proofs.Cursors.{count_on, behind_found}
 use Rattle.nth_value.proofs.cursor.find_behind.Goals as goal
 
