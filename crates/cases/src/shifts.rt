@@ -19,18 +19,6 @@ const B: ([i64; 6], [bool; 6]) = (
     [true, true, true, true, false, true],
 );
 
-fn instants(numbers: [i64; 6]) -> [Instant; 6] {
-    let [a, b, c, d, e, f] = numbers;
-    [
-        Instant(a),
-        Instant(b),
-        Instant(c),
-        Instant(d),
-        Instant(e),
-        Instant(f),
-    ]
-}
-
 // The answers of a shift with default 0, into lists of 77s.
 fn shifted(
     kind: WindowShiftKind,
@@ -40,7 +28,7 @@ fn shifted(
     column: ([i64; 6], [bool; 6]),
 ) -> Result<([Instant; 6], [bool; 6]), Fail> {
     let (numbers, marks) = column;
-    let values = instants(numbers);
+    let values = numbers.map(Instant);
     let mut out = [Instant(77); 6];
     let mut present = [true; 6];
     let shift = WindowShift::new(kind, offset, reversed, ignoring, Some(Instant(0)))?;
@@ -55,7 +43,7 @@ fn check_answers(
     numbers: [i64; 6],
     marks: [bool; 6],
 ) {
-    assert_eq!(rt; found, (instants(numbers), marks));
+    assert_eq!(rt; found, (numbers.map(Instant), marks));
 }
 
 // The worked cases, run.

@@ -1,37 +1,53 @@
 -- A row call of a shift: what its window shows, and what it then gives.
-use Rattle.std.proofs.Common.{◌≡◌, ℕ, ◌+◌, ◌-◌, ◌<◌, ◌≤◌, Bool, true, false, cond, not, ◌&&◌, ◌||◌, T, ltb, leb, List, length, take, Some, None, Ok, Err, Option, Result, sym, refl, ap, ◌∙◌, subst, ⊎_elim, arith}
+use Rattle.std.proofs.Common.{◌≡◌, ℕ, ◌+◌, ◌-◌, ◌<◌, ◌≤◌, Bool, true, false, cond, not, ◌||◌, T, ltb, leb, List, length, take, is_some, Some, None, Ok, Err, Option, Result, sym, refl, ap, ◌∙◌, subst, ⊎_elim, arith}
 use Rattle.std.specs.List.{slice_get}
 use Rattle.std.proofs.lemmas.List.{take_all}
+use Rattle.std.proofs.lemmas.Option.{cond_some, same_Some}
 use Rattle.std.proofs.lemmas.Bool.Decides.{nat_tests}
-use Rattle.std.proofs.lemmas.Bool.{cases_Bool, cond-false, le-ltb, ltb-true}
+use Rattle.std.proofs.lemmas.Bool.{cases_Bool, cond-false, ltb-true}
 use Rattle.column.specs.declared.fault.Fault.{Fault}
 use Rattle.column.specs.declared.fault.Fault.TheVariants.{TooEarly}
 use Rattle.column.specs.declared.column.Window.{Window}
 use Rattle.column.specs.Cells.{view}
 use Rattle.partition.specs.Table.{Frame}
 use Rattle.run.specs.Shown.{end_of}
-use Rattle.evaluator.specs.Meaning.{Partition, Alike, settles}
-use Rattle.run.specs.Rows.{Handed, Asks, RowCall, left_by}
+use Rattle.evaluator.specs.Meaning.{Partition, Alike, WholeCall, settles}
+use Rattle.column.specs.Refusal.{passes}
+use Rattle.std.specs.Result.{is_err}
+use Rattle.run.specs.Rows.{Handed, Asks, RowCall}
 use Rattle.evaluator.proofs.Settles.{settled_no, settled_yes}
 use Rattle.run.proofs.Seen.{seen_rows, seen_view, given_ok, given_early}
 use Rattle.present.specs.declared.held.Held.{Held}
 use Rattle.lead_lag.specs.declared.WindowShift.{WindowShift}
 use Rattle.lead_lag.specs.declared.offset.Way.{Way}
+use Rattle.lead_lag.specs.declared.rows.Look.{Look}
 use Rattle.lead_lag.specs.declared.offset.Way.TheVariants.{Own, Back, Ahead}
-use Rattle.present.specs.Present.{at, ahead}
+use Rattle.present.specs.Present.{at, ahead, after}
 use Rattle.lead_lag.specs.Offset.{way_of}
 use Rattle.lead_lag.specs.Shift.{Proper, source_row, taken, shifted, reaches, mark_of, Holding, shift_meaning}
-use Rattle.lead_lag.specs.Steps.{source_by, waits, held_after, shift_stepped}
-use Rattle.present.proofs.Counts.{some_same}
-use Rattle.present.proofs.Ahead.{ahead-number, ahead-same, before_same}
+use Rattle.lead_lag.specs.Steps.{source_by, waits, held_after}
+use Rattle.present.proofs.Ahead.{ahead-number, ahead-same, before_same, nth_has}
 use Rattle.present.proofs.Counting.{counted-source}
-use Rattle.lead_lag.specs.Holds.{way_proper, holds_after, mark_below, mark_rises}
-use Rattle.lead_lag.specs.Fronts.{Front, front_take, cond_some, cond_else, source_front, reaches-source}
+use Rattle.lead_lag.specs.Fronts.{way_proper, taken_same, Front, front_take, source_front}
+use Rattle.lead_lag.proofs.Holds.{holds_after, mark_below, mark_rises}
+
+cond_else : (b : Bool) (x r : ℕ) → cond b None (Some x) ≡ Some r → (b ≡ false) × (x ≡ r)
+cond_else true x r h = let z : ◌≡◌ {A = ℕ} 0 1 = cc in absurd (omega arith)
+cond_else false x r h = (refl, same_Some x r h)
+
+is_some_cond : (b : Bool) (x : ℕ) → is_some (cond b (Some x) None) ≡ b
+is_some_cond true x = refl
+is_some_cond false x = refl
+
+-- looking ahead, the first rows reach far enough exactly if they have the source row
+reaches-source : {V : Type 0} (m : ℕ) (ignoring : Bool) (xs : List (Option V)) (i : ℕ) → 0 < m → is_some (source_row (Ahead m) ignoring xs i) ≡ reaches (Ahead m) ignoring xs i
+reaches-source m false xs i p = is_some_cond (ltb (i + m) (length xs)) (i + m)
+reaches-source m true xs i p = nth_has (after xs i) m p
 
 -- the source row by what is held and shown lies from the mark on and below the end
 source_low : {V : Type 0} (way : Way) (ignoring : Bool) (h : Held) (rows : List (Option V)) (f : ℕ → Option V) (i a : ℕ) → Proper way → Holding way ignoring h rows i → i < a → (r : ℕ) → source_by way ignoring h f i a ≡ Some r → (mark_of way ignoring h ≤ r) × (r < a)
-source_low Own false h rows f i a p d l r e = let s = some_same i r e in (omega (arith, d.next_row), omega arith)
-source_low Own true h rows f i a p d l r e = let s = some_same i r e in (omega (arith, d.next_row), omega arith)
+source_low Own false h rows f i a p d l r e = let s = same_Some i r e in (omega (arith, d.next_row), omega arith)
+source_low Own true h rows f i a p d l r e = let s = same_Some i r e in (omega (arith, d.next_row), omega arith)
 source_low (Back m) false h rows f i a p d l r e = let s = (cond_some (leb m i) (i - m) r e).1 in (omega (arith, d.next_row), omega arith)
 source_low (Back m) true h rows f i a p d l r e =
     let s = cond_else (ltb h.count m) h.oldest r e in
@@ -42,7 +58,7 @@ source_low (Ahead m) false h rows f i a p d l r e = let s = cond_some (ltb (i + 
 source_low (Ahead m) true h rows f i a p d l r e = let s = ahead-number f (i + 1) (a - (i + 1)) (m - 1) r e in (omega (arith, d.next_row, s.from), omega (arith, s.below))
 
 -- it is that of the first rows
-source_seen : {V : Type 0} (way : Way) (ignoring : Bool) (h : Held) (xs rows : List (Option V)) (f : ℕ → Option V) (i a : ℕ) → Proper way → Holding way ignoring h rows i → i < a → length xs ≡ a → Front xs rows → ((k : ℕ) → i < k → k < a → f k ≡ at xs k) → source_by way ignoring h f i a ≡ source_row way ignoring xs i
+pub source_seen : {V : Type 0} (way : Way) (ignoring : Bool) (h : Held) (xs rows : List (Option V)) (f : ℕ → Option V) (i a : ℕ) → Proper way → Holding way ignoring h rows i → i < a → length xs ≡ a → Front xs rows → ((k : ℕ) → i < k → k < a → f k ≡ at xs k) → source_by way ignoring h f i a ≡ source_row way ignoring xs i
 source_seen Own false h xs rows f i a p d l n fr same = refl
 source_seen Own true h xs rows f i a p d l n fr same = refl
 source_seen (Back m) false h xs rows f i a p d l n fr same = refl
@@ -63,21 +79,8 @@ waits_is (Ahead m) ignoring false xs i p = ap not (reaches-source m ignoring xs 
 reached : (known b : Bool) → not (known || b) ≡ false → known ≡ false → b ≡ true
 reached known b h k = grind (arith, nat_tests)
 
-taken-same : {V : Type 0} (f g : ℕ → Option V) (d : Option V) (s : Option ℕ) → ((r : ℕ) → s ≡ Some r → f r ≡ g r) → taken f d s ≡ taken g d s
-taken-same f g d None h = refl
-taken-same f g d (Some r) h = h r refl
-
 alike : {V : Type 0} (e : WindowShift V) (h : Held) → Alike (shift_meaning e) (shift_meaning (record { shift_offset = e.shift_offset; ignore_nulls = e.ignore_nulls; default_value = e.default_value; held = h }))
 alike e h = record { answer = λ p i. refl; settled = λ rows frames known i. refl }
-
--- no row at or past the window's end is settled
-pub past_end : {V : Type 0} (e : WindowShift V) (i : ℕ) (w : Window V) (frame : Frame) (known : Bool) → Handed false (shift_meaning e).keep w frame known → end_of w ≤ i → RowCall shift_meaning false i w frame known e e (Err (TooEarly i))
-past_end e i w frame known h l = record {
-  alike = record { answer = λ p i. refl; settled = λ rows frames known i. refl };
-  mark = omega arith;
-  outcome = (refl, refl);
-  given = λ p q. given_early (shift_meaning e) (shift_meaning e) p i _ (ap (λ (b : Bool). b && (known || reaches (way_of e.shift_offset) e.ignore_nulls (take (end_of w) p.rows) i)) (le-ltb i (length (take (end_of w) p.rows)) (omega (arith, seen_rows (shift_meaning e) false (shift_meaning e).keep i w frame known h p q))));
-}
 
 module _ {V : Type 0} (e : WindowShift V) (i : ℕ) (w : Window V) (frame : Frame) (known : Bool) (h : Handed false (shift_meaning e).keep w frame known) (l : i < end_of w) (p : Partition V) (q : Asks (shift_meaning e) false p i w frame known) where
   abbrev way : Way
@@ -123,7 +126,7 @@ module _ {V : Type 0} (e : WindowShift V) (i : ℕ) (w : Window V) (frame : Fram
 
   answer_is : waits way source known ≡ false → taken (view w) e.default_value source ≡ shifted way ignoring e.default_value p.rows i
   answer_is y =
-      taken-same (view w) (at p.rows) e.default_value source (λ r s. let b = source_low way ignoring e.held p.rows (view w) i (end_of w) (way_proper e.shift_offset) q.stands l r s in agree r (omega (arith, h.kept, b.0)) b.1) ∙ ap (taken (at p.rows) e.default_value) (source_whole y)
+      taken_same (view w) (at p.rows) e.default_value source (λ r s. let b = source_low way ignoring e.held p.rows (view w) i (end_of w) (way_proper e.shift_offset) q.stands l r s in agree r (omega (arith, h.kept, b.0)) b.1) ∙ ap (taken (at p.rows) e.default_value) (source_whole y)
 
   stands_on : Holding way ignoring (held_after way ignoring e.held (view w) i) p.rows (i + 1)
   stands_on = holds_after way ignoring e.held p.rows i (view w) (way_proper e.shift_offset) q.stands (λ k u v. agree k (omega (arith, h.kept)) (omega (arith, l)))
@@ -148,24 +151,25 @@ answers {V} e i w frame known h l y x ex h' eh =
       given = λ p q. given_ok (shift_meaning e) (shift_meaning e') p i _ x (settled e i w frame known h l p q y) (ex ∙ answer_is e i w frame known h l p q y) (subst (λ (k : Held). Holding (way_of e.shift_offset) e.ignore_nulls k p.rows (i + 1)) (sym eh) (stands_on e i w frame known h l p q));
     }
 
+-- where a shift looks
+abbrev pub look_of : {V : Type 0} → WindowShift V → Look
+look_of e = record { way = way_of e.shift_offset; ignore_nulls = e.ignore_nulls }
+
 -- the same, by what the calls in the body returned
-module _ {V : Type 0} (e : WindowShift V) (i : ℕ) (w : Window V) (frame : Frame) (known : Bool) (h : Handed false (shift_meaning e).keep w frame known) (l : i < end_of w) (z : Way) (ez : z ≡ way_of e.shift_offset) (s : Option ℕ) (es : s ≡ source_by z e.ignore_nulls e.held (view w) i (end_of w)) (b : Bool) (eb : b ≡ waits z s known) where
+module _ {V : Type 0} (e : WindowShift V) (i : ℕ) (w : Window V) (frame : Frame) (known : Bool) (h : Handed false (shift_meaning e).keep w frame known) (l : i < end_of w) (z : Look) (ez : z ≡ look_of e) (s : Option ℕ) (es : s ≡ source_by z.way z.ignore_nulls e.held (view w) i (end_of w)) (b : Bool) (eb : b ≡ waits z.way s known) where
   source_at : s ≡ source_by (way_of e.shift_offset) e.ignore_nulls e.held (view w) i (end_of w)
-  source_at = es ∙ ap (λ (x : Way). source_by x e.ignore_nulls e.held (view w) i (end_of w)) ez
+  source_at = es ∙ ap (λ (x : Look). source_by x.way x.ignore_nulls e.held (view w) i (end_of w)) ez
 
   waits_at : b ≡ waits (way_of e.shift_offset) (source_by (way_of e.shift_offset) e.ignore_nulls e.held (view w) i (end_of w)) known
-  waits_at = eb ∙ (ap (λ (x : Way). waits x s known) ez ∙ ap (λ (x : Option ℕ). waits (way_of e.shift_offset) x known) source_at)
+  waits_at = eb ∙ (ap (λ (x : Look). waits x.way s known) ez ∙ ap (λ (x : Option ℕ). waits (way_of e.shift_offset) x known) source_at)
 
   pub early_by : b ≡ true → RowCall shift_meaning false i w frame known e e (Err (TooEarly i))
   early_by y = early e i w frame known h l (sym waits_at ∙ y)
 
-  pub answers_by : b ≡ false → (x : Option V) → x ≡ taken (view w) e.default_value s → (h' : Held) → h' ≡ held_after z e.ignore_nulls e.held (view w) i → RowCall shift_meaning false i w frame known e (record { shift_offset = e.shift_offset; ignore_nulls = e.ignore_nulls; default_value = e.default_value; held = h' }) (Ok x)
-  answers_by y x ex h' eh = answers e i w frame known h l (sym waits_at ∙ y) x (ex ∙ ap (taken (view w) e.default_value) source_at) h' (eh ∙ ap (λ (k : Way). held_after k e.ignore_nulls e.held (view w) i) ez)
+  pub answers_by : b ≡ false → (x : Option V) → x ≡ taken (view w) e.default_value s → (h' : Held) → h' ≡ held_after z.way z.ignore_nulls e.held (view w) i → RowCall shift_meaning false i w frame known e (record { shift_offset = e.shift_offset; ignore_nulls = e.ignore_nulls; default_value = e.default_value; held = h' }) (Ok x)
+  answers_by y x ex h' eh = answers e i w frame known h l (sym waits_at ∙ y) x (ex ∙ ap (taken (view w) e.default_value) source_at) h' (eh ∙ ap (λ (k : Look). held_after k.way k.ignore_nulls e.held (view w) i) ez)
 
--- what it leaves then
-pub stepped_by : {V : Type 0} (e : WindowShift V) (i : ℕ) (w : Window V) (frame : Frame) (way : Way) → way ≡ way_of e.shift_offset → (h : Held) → h ≡ held_after way e.ignore_nulls e.held (view w) i → record { shift_offset = e.shift_offset; ignore_nulls = e.ignore_nulls; default_value = e.default_value; held = h } ≡ shift_stepped e i w frame
-stepped_by e i w frame u q h k =
-    ap (λ (x : Held). record { shift_offset = e.shift_offset; ignore_nulls = e.ignore_nulls; default_value = e.default_value; held = x }) (k ∙ ap (λ (y : Way). held_after y e.ignore_nulls e.held (view w) i) q)
-
-pub turn_leaves : {V A : Type 0} (e e' : WindowShift V) (i j : ℕ) (w v : Window V) (f g : Frame) (r : Result A Fault) → j ≡ i → v ≡ w → e' ≡ left_by r e (shift_stepped e j v g) → e' ≡ left_by r e (shift_stepped e i w f)
-turn_leaves e e' i j w v f g r ei ew q = q ∙ (ap (λ (x : ℕ). left_by r e (shift_stepped e x v g)) ei ∙ ap (λ x. left_by r e (shift_stepped e i x g)) ew)
+-- a refused call
+pub refused_call : {A S : Type 0} (stored : S → ℕ → A → S) (refusal : Option Fault) (answers : ℕ → A) (n : ℕ) (s : S) (r : Result (Unit {0}) Fault) → r ≡ passes refusal → is_err r ≡ true → WholeCall stored refusal answers n s s r
+refused_call stored None answers n s r e h = let z : ◌≡◌ {A = ℕ} 0 1 = cc in absurd (omega arith)
+refused_call stored (Some f) answers n s r e h = record { outcome = e; slots = refl }

@@ -1,3 +1,4 @@
-pub mod Columns
+pub mod Holds
 pub mod Calls
+pub mod Columns
 pub mod Turned

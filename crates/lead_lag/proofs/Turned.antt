@@ -1,9 +1,9 @@
 -- The opposite offset on turned rows.
-use Rattle.std.proofs.Common.{◌≡◌, ℕ, zero, suc, ◌+◌, ◌-◌, ◌<◌, ◌≤◌, Bool, true, false, cond, ltb, leb, List, [], ◌∷◌, map, reverse, length, get_or, ℤ, pos, negsuc, neg_ℤ, is_some, Some, None, Option, sym, refl, ap, ◌∙◌, ⊎_elim, arith, w64, SFits}
+use Rattle.std.proofs.Common.{◌≡◌, ℕ, zero, suc, ◌+◌, ◌-◌, ◌<◌, ◌≤◌, Bool, true, false, ltb, leb, List, reverse, length, ℤ, pos, negsuc, neg_ℤ, Some, None, Option, sym, refl, ap, ◌∙◌, ⊎_elim, arith, w64, SFits}
 use Rattle.std.specs.Option.{option_map}
 use Rattle.std.specs.List.{slice_get}
-use Rattle.std.proofs.lemmas.List.{get_or-reverse, length-reverse, reverse-reverse}
-use Rattle.std.proofs.lemmas.Option.{slice_get_past}
+use Rattle.std.proofs.lemmas.List.{length-reverse, reverse-reverse}
+use Rattle.std.proofs.lemmas.Option.{slice_get-map, slice_get_past}
 use Rattle.std.proofs.lemmas.Bool.{cond-true, cond-false, cases_lt, lt-ltb, le-ltb, le-leb, lt-leb}
 use Rattle.lead_lag.specs.declared.offset.Way.{Way}
 use Rattle.lead_lag.specs.declared.offset.Way.TheVariants.{Own, Back, Ahead}
@@ -13,12 +13,8 @@ use Rattle.lead_lag.specs.Offset.{way_of}
 use Rattle.present.specs.Present.{at, before, ahead, after}
 use Rattle.lead_lag.specs.Shift.{Proper, row_off, present_off, source_row, taken, shifted}
 use Rattle.present.proofs.Counts.{number_of}
-use Rattle.lead_lag.specs.Fronts.{source_below}
-use Rattle.lead_lag.specs.Holds.{way_proper}
-
--- the row that row r of n becomes
-abbrev turn : ℕ → ℕ → ℕ
-turn n r = n - 1 - r
+use Rattle.present.proofs.Turned.{turn, at_turned, before_turned, ahead_short}
+use Rattle.lead_lag.specs.Fronts.{way_proper, source_below}
 
 -- back becomes ahead
 abbrev turned_way : Way → Way
@@ -43,36 +39,6 @@ off_turned (Ahead m) n i h = ⊎_elim
     (λ l. cond-false (leb m (turn n i)) (Some (turn n i - m)) None (lt-leb m (turn n i) (omega arith)) ∙ sym (ap (option_map (turn n)) (cond-false (ltb (i + m) n) (Some (i + m)) None (le-ltb (i + m) n l))))
     (cases_lt (i + m) n)
 
-module _ {V : Type 0} (cs : List (Option V)) where
-  abbrev back : List (Option V)
-  back = reverse cs
-
-  -- a row's cell is that of the row that it becomes
-  at_turned : (r : ℕ) → r < length cs → at back (turn (length cs) r) ≡ at cs r
-  at_turned r h =
-      let e : length cs - 1 - (length cs - 1 - r) ≡ r = omega arith in
-      get_or-reverse cs (length cs - 1 - r) None (omega arith) ∙ ap (λ (k : ℕ). get_or cs k None) e
-
-  -- the present rows before row i, turned, are those ahead
-  before_turned : (i : ℕ) → i ≤ length cs → ahead (at back) (length cs - i) i ≡ map (turn (length cs)) (before (at cs) i)
-  before_turned zero h = refl
-  before_turned (suc i) h =
-      let n = length cs in
-      let here : n - suc i ≡ turn n i = omega arith in
-      let on : n - suc i + 1 ≡ n - i = omega arith in
-      let cell : at back (n - suc i) ≡ at cs i = ap (at back) here ∙ at_turned i (omega arith) in
-      let rest : ahead (at back) (n - suc i + 1) i ≡ map (turn n) (before (at cs) i) = ap (λ (k : ℕ). ahead (at back) k i) on ∙ before_turned i (omega arith) in
-      ap (λ (x : Option V). cond (is_some x) ((n - suc i) ∷ ahead (at back) (n - suc i + 1) i) (ahead (at back) (n - suc i + 1) i)) cell ∙ both (is_some (at cs i)) (n - suc i) i (turn n) (ahead (at back) (n - suc i + 1) i) (before (at cs) i) here rest
-    where
-      both : (b : Bool) (x i : ℕ) (t : ℕ → ℕ) (xs ys : List ℕ) → x ≡ t i → xs ≡ map t ys → cond b (x ∷ xs) xs ≡ map t (cond b (i ∷ ys) ys)
-      both true x i t xs ys e q = ap (λ (k : ℕ). k ∷ xs) e ∙ ap (λ (zs : List ℕ). t i ∷ zs) q
-      both false x i t xs ys e q = q
-
-nth-map : (t : ℕ → ℕ) (xs : List ℕ) (k : ℕ) → slice_get (map t xs) k ≡ option_map t (slice_get xs k)
-nth-map t [] k = refl
-nth-map t (x ∷ xs) zero = refl
-nth-map t (x ∷ xs) (suc k) = nth-map t xs k
-
 -- turning twice changes nothing
 turn_twice : (n : ℕ) (o : Option ℕ) → ((r : ℕ) → o ≡ Some r → r < n) → option_map (turn n) (option_map (turn n) o) ≡ o
 turn_twice n None h = refl
@@ -90,11 +56,11 @@ module _ {V : Type 0} (cs : List (Option V)) (i : ℕ) (lt : i < length cs) wher
   back_turned k =
       let a : turn n i + 1 ≡ n - i = omega arith in
       let b : length (reverse cs) - (turn n i + 1) ≡ i = omega (arith, long) in
-      ap (λ (x : ℕ). slice_get (ahead (at (reverse cs)) (turn n i + 1) x) k) b ∙ (ap (λ (x : ℕ). slice_get (ahead (at (reverse cs)) x i) k) a ∙ (ap (λ (xs : List ℕ). slice_get xs k) (before_turned cs i (omega arith)) ∙ nth-map (turn n) (before (at cs) i) k))
+      ap (λ (x : ℕ). slice_get (ahead (at (reverse cs)) (turn n i + 1) x) k) b ∙ (ap (λ (x : ℕ). slice_get (ahead (at (reverse cs)) x i) k) a ∙ (ap (λ (xs : List ℕ). slice_get xs k) (before_turned cs i (omega arith)) ∙ slice_get-map (turn n) (before (at cs) i) k))
 
 -- looking ahead from row i is looking back from the row that it becomes
-ahead-turned : {V : Type 0} (cs : List (Option V)) (i : ℕ) → i < length cs → (k : ℕ) → slice_get (before (at (reverse cs)) (turn (length cs) i)) k ≡ option_map (turn (length cs)) (slice_get (after cs i) k)
-ahead-turned cs i lt k =
+forward_turned : {V : Type 0} (cs : List (Option V)) (i : ℕ) → i < length cs → (k : ℕ) → slice_get (before (at (reverse cs)) (turn (length cs) i)) k ≡ option_map (turn (length cs)) (slice_get (after cs i) k)
+forward_turned cs i lt k =
     let n = length cs in
     let ds = reverse cs in
     let long : length ds ≡ n = length-reverse cs in
@@ -109,7 +75,7 @@ ahead-turned cs i lt k =
 present_turned : {V : Type 0} (way : Way) (cs : List (Option V)) (i : ℕ) → i < length cs → present_off (turned_way way) (reverse cs) (turn (length cs) i) ≡ option_map (turn (length cs)) (present_off way cs i)
 present_turned Own cs i h = refl
 present_turned (Back m) cs i h = back_turned cs i h (m - 1)
-present_turned (Ahead m) cs i h = ahead-turned cs i h (m - 1)
+present_turned (Ahead m) cs i h = forward_turned cs i h (m - 1)
 
 source-turned : {V : Type 0} (way : Way) (ignoring : Bool) (cs : List (Option V)) (i : ℕ) → i < length cs → source_row (turned_way way) ignoring (reverse cs) (turn (length cs) i) ≡ option_map (turn (length cs)) (source_row way ignoring cs i)
 source-turned way false cs i h = ap (λ (x : ℕ). row_off (turned_way way) x (turn (length cs) i)) (length-reverse cs) ∙ off_turned way (length cs) i h
@@ -126,15 +92,7 @@ way_turned way ignoring d cs i p h =
 -- an offset beyond every partition finds no row
 far : {V : Type 0} (ignoring : Bool) (cs : List (Option V)) (i : ℕ) → length cs ≤ 16777216 → source_row (Ahead 9223372036854775808) ignoring cs i ≡ None
 far false cs i l = cond-false (ltb (i + 9223372036854775808) (length cs)) _ _ (le-ltb (i + 9223372036854775808) (length cs) (omega arith))
-far true cs i l = slice_get_past (after cs i) 9223372036854775807 (omega (arith, ahead_most (at cs) (i + 1) (length cs - (i + 1))))
-  where
-    most_step : (b : Bool) (x : ℕ) (xs : List ℕ) (m : ℕ) → length xs ≤ m → length (cond b (x ∷ xs) xs) ≤ suc m
-    most_step true x xs m h = omega arith
-    most_step false x xs m h = omega arith
-
-    ahead_most : {W : Type 0} (f : ℕ → Option W) (k m : ℕ) → length (ahead f k m) ≤ m
-    ahead_most f k zero = omega arith
-    ahead_most f k (suc m) = most_step (is_some (f k)) k (ahead f (k + 1) m) m (ahead_most f (k + 1) m)
+far true cs i l = slice_get_past (after cs i) 9223372036854775807 (omega (arith, ahead_short (at cs) (i + 1) (length cs - (i + 1))))
 
 -- the opposite offset gives at the row that row i becomes what the offset gives at row i
 pub shifted-turned : {V : Type 0} (z : ℤ) (ignoring : Bool) (d : Option V) (cs : List (Option V)) (i : ℕ) → SFits w64 z → i < length cs → length cs ≤ 16777216 → shifted (way_of (opposite z)) ignoring d (reverse cs) (length cs - 1 - i) ≡ shifted (way_of z) ignoring d cs i

@@ -1,15 +1,17 @@
 -- What the first rows of a partition tell of the source row and the answer.
-use Rattle.std.specs.Prelude.{◌≡◌, ℕ, ◌+◌, ◌-◌, ◌<◌, ◌≤◌, Bool, true, false, cond, List, ◌++◌, length, take, is_some, Some, None, Option, nat_le, nat_lt, refl}
+use Rattle.std.specs.Prelude.{◌≡◌, ℕ, ℤ, pos, negsuc, zero, suc, ◌+◌, ◌-◌, ◌<◌, ◌≤◌, Bool, true, false, List, ◌++◌, length, take, Some, None, Option, nat_le, nat_lt, refl}
 use Rattle.std.proofs.Common.{sym, ◌∙◌, ap, arith}
 use Rattle.std.specs.List.{slice_get}
 use Rattle.std.proofs.lemmas.List.{length-take, length-append, get_or-take, get_or_append_left}
+use Rattle.std.proofs.lemmas.Option.{cond_some, same_Some, slice_get_within}
 use Rattle.std.proofs.lemmas.Bool.{cond-true, lt-ltb, ltb-true, leb-true, le-leb}
 use Rattle.lead_lag.specs.declared.offset.Way.{Way}
 use Rattle.lead_lag.specs.declared.offset.Way.TheVariants.{Own, Back, Ahead}
 use Rattle.present.specs.Present.{at, ahead, after}
+use Rattle.lead_lag.specs.Offset.{way_of}
 use Rattle.lead_lag.specs.Shift.{Proper, source_row, taken, shifted, reaches}
-use Rattle.present.proofs.Counts.{number_of, some_same}
-use Rattle.present.proofs.Ahead.{ahead-number, ahead_longer, ahead-same, before_same, nth-within, within-nth, nth_has}
+use Rattle.present.proofs.Counts.{number_of}
+use Rattle.present.proofs.Ahead.{ahead-number, ahead_longer, ahead-same, before_same, nth-within}
 
 -- xs are first rows of rows
 pub record Front {V : Type 0} (xs rows : List (Option V)) : Type 0 where
@@ -28,13 +30,16 @@ front_append rows more = record {
   same = λ k h. sym (get_or_append_left rows more None k h);
 }
 
-pub cond_some : (b : Bool) (x r : ℕ) → cond b (Some x) None ≡ Some r → (b ≡ true) × (x ≡ r)
-cond_some true x r h = (refl, some_same x r h)
-cond_some false x r h = let z : ◌≡◌ {A = ℕ} 0 1 = cc in absurd (omega arith)
+-- the way of an offset is proper
+pub way_proper : (z : ℤ) → Proper (way_of z)
+way_proper (pos zero) = tt
+way_proper (pos (suc n)) = omega arith
+way_proper (negsuc n) = omega arith
 
-pub cond_else : (b : Bool) (x r : ℕ) → cond b None (Some x) ≡ Some r → (b ≡ false) × (x ≡ r)
-cond_else true x r h = let z : ◌≡◌ {A = ℕ} 0 1 = cc in absurd (omega arith)
-cond_else false x r h = (refl, some_same x r h)
+-- cells that agree on the source row
+pub taken_same : {V : Type 0} (f g : ℕ → Option V) (d : Option V) (s : Option ℕ) → ((r : ℕ) → s ≡ Some r → f r ≡ g r) → taken f d s ≡ taken g d s
+taken_same f g d None h = refl
+taken_same f g d (Some r) h = h r refl
 
 module _ {V : Type 0} (xs rows : List (Option V)) (fr : Front xs rows) (i : ℕ) (lt : i < length xs) where
   -- present rows after row i that the first rows have
@@ -58,8 +63,8 @@ module _ {V : Type 0} (xs rows : List (Option V)) (fr : Front xs rows) (i : ℕ)
       d.1 ∙ sym (after_front (m - 1) d.0 d.1)
 
   pub source_below : (way : Way) (ignoring : Bool) → Proper way → (r : ℕ) → source_row way ignoring xs i ≡ Some r → r < length xs
-  source_below Own false p r h = omega (arith, some_same i r h)
-  source_below Own true p r h = omega (arith, some_same i r h)
+  source_below Own false p r h = omega (arith, same_Some i r h)
+  source_below Own true p r h = omega (arith, same_Some i r h)
   source_below (Back m) false p r h = omega (arith, (cond_some (nat_le m i) (i - m) r h).1)
   source_below (Back m) true p r h = omega (arith, (number_of (at xs) i (m - 1) r h).below)
   source_below (Ahead m) false p r h = let c = cond_some (nat_lt (i + m) (length xs)) (i + m) r h in omega (arith, c.1, ltb-true (i + m) (length xs) c.0)
@@ -72,22 +77,9 @@ module _ {V : Type 0} (xs rows : List (Option V)) (fr : Front xs rows) (i : ℕ)
   reaches_front (Ahead m) true p h =
       let l : m ≤ length (after xs i) = leb-true m (length (after xs i)) h in
       let d = nth-within (after xs i) (m - 1) (omega arith) in
-      le-leb m (length (after rows i)) (omega (arith, within-nth (after rows i) (m - 1) d.0 (after_front (m - 1) d.0 d.1)))
-
-  taken_front : (d : Option V) (s : Option ℕ) → ((r : ℕ) → s ≡ Some r → r < length xs) → taken (at xs) d s ≡ taken (at rows) d s
-  taken_front d None b = refl
-  taken_front d (Some r) b = fr.same r (b r refl)
+      le-leb m (length (after rows i)) (omega (arith, slice_get_within (after rows i) (m - 1) d.0 (after_front (m - 1) d.0 d.1)))
 
   -- so the answer is the same
   pub answer_front : (way : Way) (ignoring : Bool) (d : Option V) → Proper way → reaches way ignoring xs i ≡ true → shifted way ignoring d xs i ≡ shifted way ignoring d rows i
   answer_front way ignoring d p h =
-      taken_front d (source_row way ignoring xs i) (source_below way ignoring p) ∙ ap (taken (at rows) d) (source_front way ignoring p h)
-
--- looking ahead, the first rows reach far enough exactly if they have the source row
-is_some_cond : (b : Bool) (x : ℕ) → is_some (cond b (Some x) None) ≡ b
-is_some_cond true x = refl
-is_some_cond false x = refl
-
-pub reaches-source : {V : Type 0} (m : ℕ) (ignoring : Bool) (xs : List (Option V)) (i : ℕ) → 0 < m → is_some (source_row (Ahead m) ignoring xs i) ≡ reaches (Ahead m) ignoring xs i
-reaches-source m false xs i p = is_some_cond (nat_lt (i + m) (length xs)) (i + m)
-reaches-source m true xs i p = nth_has (after xs i) m p
+      taken_same (at xs) (at rows) d (source_row way ignoring xs i) (λ r q. fr.same r (source_below way ignoring p r q)) ∙ ap (taken (at rows) d) (source_front way ignoring p h)

@@ -2,15 +2,13 @@
 use Rattle.std.specs.Prelude.{◌≡◌, ℕ, Bool, true, false, T, ◌++◌, length, take, Option, refl}
 use Rattle.std.proofs.Common.{sym, ◌∙◌, ap, subst, arith}
 use Rattle.std.proofs.lemmas.List.{length-append, take_all}
-use Rattle.evaluator.specs.Meaning.{Partition}
-use Rattle.evaluator.specs.Meaning.{Laws}
+use Rattle.evaluator.specs.Meaning.{Partition, Laws}
 use Rattle.lead_lag.specs.declared.WindowShift.{WindowShift}
 use Rattle.lead_lag.specs.declared.offset.Way.{Way}
 use Rattle.lead_lag.specs.Offset.{way_of}
 use Rattle.lead_lag.specs.Shift.{Proper, shifted, reaches, shift_settled, shift_meaning}
 use Rattle.evaluator.proofs.Settles.{settled_says, settled_by}
-use Rattle.lead_lag.specs.Holds.{way_proper}
-use Rattle.lead_lag.specs.Fronts.{Front, front_take, front_append, reaches_front, answer_front}
+use Rattle.lead_lag.specs.Fronts.{way_proper, Front, front_take, front_append, reaches_front, answer_front}
 
 shift_local : {V : Type 0} (way : Way) (ignoring : Bool) (d : Option V) → Proper way → (p q : Partition V) (a : ℕ) (known : Bool) (i : ℕ) → take a p.rows ≡ take a q.rows → (T known → (length p.rows ≡ a) × (length q.rows ≡ a)) → T (shift_settled way ignoring (take a p.rows) known i) → shifted way ignoring d p.rows i ≡ shifted way ignoring d q.rows i
 shift_local way ignoring d pr p q a true i er len h =

@@ -3,5 +3,4 @@ pub mod Shift
 pub mod Steps
 pub mod Cases
 pub mod Lawful
-pub mod Holds
 pub mod Fronts

@@ -5,8 +5,8 @@
 
 ghost use Rattle.std.specs.Prelude.{◌≡◌, false, FitsSigned};
 ghost use Rattle.std.specs.Int.{w64};
-ghost use Rattle.run.specs.Rows.{Handed, RowCall, left_by};
 ghost use Rattle.lead_lag.specs.Cases.{Cases};
+ghost use Rattle.lead_lag.specs.Offset.{way_of};
 ghost use Rattle.lead_lag.specs.Shift.{shift_meaning, renewed_with, shift_renewed, shift_mirrored, making};
 ghost use Rattle.lead_lag.specs.Steps.{shift_stepped, shift_settling};
 ghost use Rattle.lead_lag.specs.Lawful.{shift_lawful};
@@ -15,10 +15,9 @@ pub mod offset;
 mod rows;
 mod whole;
 
-use crate::offset::{WindowShiftKind, look, signed_offset};
-use crate::rows::{mark, must_wait, source, step};
-use crate::whole::{take_cell, write_all};
-use column::column::Window;
+use crate::offset::{Way, WindowShiftKind, signed_offset};
+use crate::rows::{Look, take_cell};
+use crate::whole::write_all;
 use column::fault::Fault;
 use column::kind::Kind;
 use column::output::Output;
@@ -69,9 +68,8 @@ impl<K: Kind> WindowShift<K> {
     {
         WindowShift {
             shift_offset,
-            ignore_nulls: self.ignore_nulls,
-            default_value: self.default_value,
             held: Held::START,
+            ..*self
         }
     }
 
@@ -83,29 +81,14 @@ impl<K: Kind> WindowShift<K> {
         self.renewed(opposite(self.shift_offset))
     }
 
-    // The answer of row `next`, as far as the window settles it.
-    fn answer_row(
-        &mut self,
-        next: usize,
-        window: &Window<'_, K>,
-        known: bool,
-    ) -> Result<Option<K>, Fault>
-        requires { Handed false (shift_meaning self.old).keep window.now (0, 0) known }
-        ensures call { RowCall shift_meaning false next window.now (0, 0) known self.old self.new result }
-        ensures leaves { self.new ≡ left_by result self.old (shift_stepped self.old next window.now (0, 0)) }
+    // Where it looks.
+    fn look(&self) -> Look
+        ensures { result ≡ record { way = way_of self.now.shift_offset; ignore_nulls = self.now.ignore_nulls } }
     {
-        let end = window.begin + window.rows.values.len();
-        if next >= end {
-            return Err(Fault::TooEarly(next));
+        Look {
+            way: Way::from(self.shift_offset),
+            ignore_nulls: self.ignore_nulls,
         }
-        let way = look(self.shift_offset);
-        let row = source(way, self.ignore_nulls, self.held, window, next, end);
-        if must_wait(way, row, known) {
-            return Err(Fault::TooEarly(next));
-        }
-        let answer = take_cell(window, self.default_value, row);
-        self.held = step(way, self.ignore_nulls, self.held, window, next);
-        Ok(answer)
     }
 }
 
@@ -140,19 +123,14 @@ impl<K: Kind> Evaluator for WindowShift<K> {
         self.renewed(self.shift_offset)
     }
 
+    #[tactic(auto, using(crate::proofs::Calls::refused_call))]
     fn evaluate_all<O: Output<Option<K>>>(
         &self,
         rows: &WholePartition<'_, K>,
         out: &mut O,
     ) -> Result<(), Fault> {
         check_whole(rows, FRAMES, GROUPS, out.len())?;
-        write_all(
-            look(self.shift_offset),
-            self.ignore_nulls,
-            self.default_value,
-            &rows.column,
-            out,
-        );
+        write_all(self.look(), self.default_value, &rows.column, out);
         Ok(())
     }
 }
@@ -163,13 +141,26 @@ impl<K: Kind> RowEvaluator for WindowShift<K> {
     ghost settling = { shift_settling };
 
     fn row(&mut self, turn: &Turn<'_, K>) -> Result<Option<K>, Fault> {
-        self.answer_row(turn.next(), &turn.window(), turn.known())
+        let next = turn.next();
+        let window = turn.window();
+        let end = window.begin + window.rows.values.len();
+        if next >= end {
+            return Err(Fault::TooEarly(next));
+        }
+        let look = self.look();
+        let source = look.source(self.held, &window, next, end);
+        if look.must_wait(source, turn.known()) {
+            return Err(Fault::TooEarly(next));
+        }
+        let answer = take_cell(&window, self.default_value, source);
+        self.held = look.step(self.held, &window, next);
+        Ok(answer)
     }
 
     fn settle(&mut self, _next: usize, _last: (usize, usize)) {}
 
     fn keep_mark(&self) -> usize {
-        mark(look(self.shift_offset), self.ignore_nulls, self.held)
+        self.look().mark(self.held)
     }
 }
 

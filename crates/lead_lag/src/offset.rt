@@ -4,6 +4,7 @@ ghost use Rattle.std.specs.Prelude.{◌≡◌};
 ghost use Rattle.lead_lag.specs.Offset.{kind_offset, signed_offset, way_of};
 
 use evaluator::utils::opposite;
+use std::cmp::Ordering;
 
 // Which of the two functions.
 #[derive(Clone, Copy)]
@@ -25,11 +26,9 @@ impl WindowShiftKind {
     pub fn shift_offset(&self, value: Option<i64>) -> i64
         ensures { result ≡ kind_offset self.now value }
     {
-        match (*self, value) {
-            (WindowShiftKind::Lag, Some(v)) => v,
-            (WindowShiftKind::Lag, None) => 1,
-            (WindowShiftKind::Lead, Some(v)) => opposite(v),
-            (WindowShiftKind::Lead, None) => -1,
+        match self {
+            WindowShiftKind::Lag => value.unwrap_or(1),
+            WindowShiftKind::Lead => value.map_or(-1, opposite),
         }
     }
 }
@@ -42,16 +41,15 @@ pub(crate) fn signed_offset(kind: WindowShiftKind, value: Option<i64>, reversed:
     if reversed { opposite(offset) } else { offset }
 }
 
-// The way of a signed offset.
-pub(crate) fn look(offset: i64) -> Way
-    ensures { result ≡ way_of offset }
-{
-    let m = offset.unsigned_abs() as usize;
-    if offset > 0 {
-        Way::Back(m)
-    } else if offset < 0 {
-        Way::Ahead(m)
-    } else {
-        Way::Own
+impl From<i64> for Way {
+    ghost from_gives = { λ offset way. way ≡ way_of offset };
+
+    fn from(offset: i64) -> Way {
+        let m = offset.unsigned_abs() as usize;
+        match offset.cmp(&0) {
+            Ordering::Less => Way::Ahead(m),
+            Ordering::Equal => Way::Own,
+            Ordering::Greater => Way::Back(m),
+        }
     }
 }

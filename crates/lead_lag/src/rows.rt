@@ -3,96 +3,98 @@
 ghost use Rattle.std.specs.Prelude.{◌≡◌, ◌<◌};
 ghost use Rattle.column.specs.Cells.{view};
 ghost use Rattle.column.specs.Refusal.{row_limit};
-ghost use Rattle.lead_lag.specs.Shift.{mark_of};
-ghost use Rattle.lead_lag.specs.Steps.{source_by, present_by, waits, held_after};
+ghost use Rattle.lead_lag.specs.Shift.{row_off, taken, mark_of};
+ghost use Rattle.lead_lag.specs.Steps.{source_by, waits, held_after};
 
 use crate::offset::Way;
-use crate::whole::row_off;
 use column::column::Window;
 use column::kind::Kind;
 use present::held::{Held, count_row, oldest_source};
 use present::scan::present_ahead;
 
-// The keep mark.
-pub(crate) fn mark(way: Way, ignoring: bool, held: Held) -> usize
-    ensures { result ≡ mark_of way ignoring held }
-{
-    match way {
-        Way::Own => held.next,
-        Way::Ahead(_) => held.next,
-        Way::Back(m) => {
-            if ignoring {
-                oldest_source(m, held).unwrap_or(0)
-            } else {
-                held.next.saturating_sub(m)
-            }
+// Where a shift looks; with NULLs ignored only present rows are steps.
+#[derive(Clone, Copy)]
+pub(crate) struct Look {
+    pub(crate) way: Way,
+    pub(crate) ignore_nulls: bool,
+}
+
+impl Way {
+    // The row so many rows off row `i`, if it is one of the `n` rows.
+    fn row_off(self, n: usize, i: usize) -> Option<usize>
+        ensures { result ≡ row_off self n i }
+    {
+        match self {
+            Way::Own => Some(i),
+            Way::Back(m) => i.checked_sub(m),
+            Way::Ahead(m) => i.checked_add(m).filter(|row| *row < n),
         }
     }
 }
 
-// Ignoring NULLs, the row that the answer of row `next` is taken from, if there is one below `end`.
-fn present_source<K: Kind>(
-    way: Way,
-    held: Held,
-    window: &Window<'_, K>,
-    next: usize,
-    end: usize,
-) -> Option<usize>
-    requires { next < end }
-    ensures { result ≡ present_by way held (view window.now) next end }
-{
-    match way {
-        Way::Own => Some(next),
-        Way::Back(m) => oldest_source(m, held),
-        Way::Ahead(m) => present_ahead(window, next + 1, end, m),
-    }
-}
-
-// The row that the answer of row `next` is taken from, if there is one below `end`.
-pub(crate) fn source<K: Kind>(
-    way: Way,
-    ignoring: bool,
-    held: Held,
-    window: &Window<'_, K>,
-    next: usize,
-    end: usize,
-) -> Option<usize>
-    requires { next < end }
-    ensures { result ≡ source_by way ignoring held (view window.now) next end }
-{
-    if ignoring {
-        present_source(way, held, window, next, end)
-    } else {
-        row_off(way, end, next)
-    }
-}
-
-// Whether a row with this source is too early.
-pub(crate) fn must_wait(way: Way, source: Option<usize>, known: bool) -> bool
-    ensures { result ≡ waits way source known }
-{
-    match way {
-        Way::Own => false,
-        Way::Back(_) => false,
-        Way::Ahead(_) => !known && source.is_none(),
-    }
-}
-
-// What is held after row `next`.
-pub(crate) fn step<K: Kind>(
-    way: Way,
-    ignoring: bool,
-    held: Held,
-    window: &Window<'_, K>,
-    next: usize,
-) -> Held
-    requires { next < row_limit }
-    ensures { result ≡ held_after way ignoring held (view window.now) next }
-{
-    if let Way::Back(m) = way
-        && ignoring
+impl Look {
+    // The keep mark.
+    pub(crate) fn mark(self, held: Held) -> usize
+        ensures { result ≡ mark_of self.way self.ignore_nulls held }
     {
-        return count_row(m, held, window, next);
+        match self.way {
+            Way::Back(m) if self.ignore_nulls => oldest_source(m, held).unwrap_or(0),
+            Way::Back(m) => held.next.saturating_sub(m),
+            Way::Own | Way::Ahead(_) => held.next,
+        }
     }
-    held.passed(next)
+
+    // The row that the answer of row `next` is taken from, if there is one below `end`.
+    pub(crate) fn source<K: Kind>(
+        self,
+        held: Held,
+        window: &Window<'_, K>,
+        next: usize,
+        end: usize,
+    ) -> Option<usize>
+        requires { next < end }
+        ensures { result ≡ source_by self.way self.ignore_nulls held (view window.now) next end }
+    {
+        if !self.ignore_nulls {
+            return self.way.row_off(end, next);
+        }
+        match self.way {
+            Way::Own => Some(next),
+            Way::Back(m) => oldest_source(m, held),
+            Way::Ahead(m) => present_ahead(window, next + 1, end, m),
+        }
+    }
+
+    // Whether a row with this source is too early.
+    pub(crate) fn must_wait(self, source: Option<usize>, known: bool) -> bool
+        ensures { result ≡ waits self.way source known }
+    {
+        matches!(self.way, Way::Ahead(_)) && !known && source.is_none()
+    }
+
+    // What is held after row `next`.
+    pub(crate) fn step<K: Kind>(self, held: Held, window: &Window<'_, K>, next: usize) -> Held
+        requires { next < row_limit }
+        ensures { result ≡ held_after self.way self.ignore_nulls held (view window.now) next }
+    {
+        match self.way {
+            Way::Back(m) if self.ignore_nulls => count_row(m, held, window, next),
+            _ => held.passed(next),
+        }
+    }
+}
+
+// The cell of the source row, or the default.
+pub(crate) fn take_cell<K: Kind>(
+    window: &Window<'_, K>,
+    default: Option<K>,
+    source: Option<usize>,
+) -> Option<K>
+    ensures { result ≡ taken (view window.now) default source }
+{
+    // a match: no clause is inferred for a closure that holds the window, and with one written out `map_or` is longer
+    match source {
+        Some(row) => window.cell(row),
+        None => default,
+    }
 }

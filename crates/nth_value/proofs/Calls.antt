@@ -1,12 +1,15 @@
 -- What making fresh, a row call and settling give.
-use Rattle.std.proofs.Common.{◌≡◌, ℕ, ◌+◌, ◌<◌, ◌≤◌, Bool, true, false, ◌&&◌, ◌||◌, T, ltb, leb, length, get_or, take, Ok, Err, Option, sym, refl, ap, ◌∙◌, subst, inl, inr, ⊎_elim, arith}
+use Rattle.std.proofs.Common.{◌≡◌, ℕ, ◌+◌, ◌<◌, ◌≤◌, Bool, true, false, ◌&&◌, ◌||◌, T, ltb, leb, length, get_or, take, Some, None, Ok, Err, Option, Result, sym, refl, ap, ◌∙◌, subst, inl, inr, ⊎_elim, arith}
 use Rattle.std.proofs.lemmas.Bool.{cases_lt, cases_Bool}
 use Rattle.std.proofs.lemmas.Bool.Decides.{nat_tests}
+use Rattle.column.specs.declared.fault.Fault.{Fault}
 use Rattle.column.specs.declared.fault.Fault.TheVariants.{TooEarly}
 use Rattle.column.specs.declared.column.Window.{Window}
 use Rattle.column.specs.Cells.{view}
 use Rattle.partition.specs.Table.{Frame}
-use Rattle.evaluator.specs.Meaning.{Partition, Alike, settles}
+use Rattle.evaluator.specs.Meaning.{Partition, Alike, WholeCall, settles}
+use Rattle.column.specs.Refusal.{passes}
+use Rattle.std.specs.Result.{is_err}
 use Rattle.run.specs.Shown.{end_of, frame_at}
 use Rattle.run.specs.Rows.{Handed, Asks, RowCall, SettleCall}
 use Rattle.run.proofs.Seen.{seen_rows, seen_within, seen_frame, seen_view, hidden_view, given_ok, given_early}
@@ -14,7 +17,7 @@ use Rattle.nth_value.specs.declared.kind.Pick.{Pick}
 use Rattle.nth_value.specs.declared.state.NthValueState.{NthValueState}
 use Rattle.nth_value.specs.declared.NthValue.{NthValue}
 use Rattle.nth_value.specs.Frames.{pick_of}
-use Rattle.nth_value.specs.Settling.{start, answer_by, answered, settled_by}
+use Rattle.nth_value.specs.Settling.{answer_by, answered, settled_by}
 use Rattle.nth_value.specs.Nth.{nth_answer, Hides, Holding, nth_meaning, holding, nth_renewed}
 use Rattle.nth_value.proofs.Holds.{fresh_holds, holds_on, answer_is}
 use Rattle.nth_value.proofs.Settles.{settles_holds, settling_rises}
@@ -23,24 +26,21 @@ pub alike : {V : Type 0} (e : NthValue V) (h : NthValueState V) → Alike (nth_m
 alike e h = record { answer = λ p i. refl; settled = λ rows frames known i. refl }
 
 -- made fresh it stands at row 0 of every partition
-pub fresh-alike : {V : Type 0} (e r : NthValue V) → r ≡ nth_renewed e → Alike (nth_meaning e) (nth_meaning r)
-fresh-alike e r q = subst (λ (x : NthValue _). Alike (nth_meaning e) (nth_meaning x)) (sym q) (alike e start)
-
 pub fresh_stands : {V : Type 0} (e r : NthValue V) → r ≡ nth_renewed e → (p : Partition V) → (nth_meaning r).stands p 0
-fresh_stands e r q p = subst (λ (x : NthValue _). (nth_meaning x).stands p 0) (sym q) (fresh_holds (pick_of e.kind e.n) e.ignore_nulls p)
+fresh_stands e r q p = subst (λ (x : NthValue _). (nth_meaning x).stands p 0) (sym q) (fresh_holds (pick_of e.kind) e.ignore_nulls p)
 
 -- settling
-pub settle-call : {V : Type 0} (e : NthValue V) (i : ℕ) (last : Frame) (h : NthValueState V) → h ≡ settled_by e.kind e.n e.ignore_nulls e.state i last → SettleCall nth_meaning true i last e (holding e h)
+pub settle-call : {V : Type 0} (e : NthValue V) (i : ℕ) (last : Frame) (h : NthValueState V) → h ≡ settled_by e.kind e.ignore_nulls e.state i last → SettleCall nth_meaning true i last e (holding e h)
 settle-call e i last h q = record {
   alike = alike e h;
-  mark = subst (λ (x : NthValueState _). e.state.mark ≤ x.mark) (sym q) (settling_rises e.kind e.n e.ignore_nulls e.state i last);
-  stands = λ p d framed z ordered is. subst (λ (x : NthValueState _). Holding (pick_of e.kind e.n) e.ignore_nulls x p i) (sym q) (settles_holds e.kind e.n e.ignore_nulls e.state p i last z is d);
+  mark = subst (λ (x : NthValueState _). e.state.mark ≤ x.mark) (sym q) (settling_rises e.kind e.ignore_nulls e.state i last);
+  stands = λ p d framed z ordered is. subst (λ (x : NthValueState _). Holding (pick_of e.kind) e.ignore_nulls x p i) (sym q) (settles_holds e.kind e.ignore_nulls e.state p i last z is d);
 }
 
 -- a row call of row i with this window and frame
 module _ {V : Type 0} (e : NthValue V) (i : ℕ) (w : Window V) (frame : Frame) (known : Bool) (h : Handed true e.state.mark w frame known) (s : Bool) (is : s ≡ ltb i (end_of w) && (known || leb frame.1 (end_of w))) where
   abbrev pick : Pick
-  pick = pick_of e.kind e.n
+  pick = pick_of e.kind
 
   -- whether the window settles the row is what the partition says
   settled_seen : (p : Partition V) → Asks (nth_meaning e) true p i w frame known → settles (nth_meaning e) p (end_of w) known i ≡ s
@@ -99,3 +99,15 @@ module _ {V : Type 0} (e : NthValue V) (i : ℕ) (w : Window V) (frame : Frame) 
       outcome = below;
       given = λ p q. given_ok (nth_meaning e) (nth_meaning (holding e h')) p i _ x (settled_seen p q ∙ y) (ex ∙ answer_seen p q) (subst (λ (g : NthValueState V). Holding pick e.ignore_nulls g p (i + 1)) (sym eh) (stands_on p q x ex));
     }
+
+-- by what the calls on a turn returned
+pub handed_as : {V : Type 0} (mark : ℕ) (w v : Window V) (f g : Frame) (k l : Bool) → v ≡ w → g ≡ f → l ≡ k → Handed true mark w f k → Handed true mark v g l
+handed_as mark w v f g k l ew ef ek h = subst (λ (x : Bool). Handed true mark v g x) (sym ek) (subst (λ (x : Frame). Handed true mark v x k) (sym ef) (subst (λ x. Handed true mark x f k) (sym ew) h))
+
+pub call_as : {V : Type 0} (e e' : NthValue V) (i j : ℕ) (w v : Window V) (f g : Frame) (k l : Bool) (r : Result (Option V) Fault) → j ≡ i → v ≡ w → g ≡ f → l ≡ k → RowCall nth_meaning true j v g l e e' r → RowCall nth_meaning true i w f k e e' r
+call_as e e' i j w v f g k l r ei ew ef ek c = subst (λ (x : Bool). RowCall nth_meaning true i w f x e e' r) ek (subst (λ (x : Frame). RowCall nth_meaning true i w x l e e' r) ef (subst (λ x. RowCall nth_meaning true i x g l e e' r) ew (subst (λ (x : ℕ). RowCall nth_meaning true x v g l e e' r) ei c)))
+
+-- a refused call
+pub refused_call : {A S : Type 0} (stored : S → ℕ → A → S) (refusal : Option Fault) (answers : ℕ → A) (n : ℕ) (s : S) (r : Result (Unit {0}) Fault) → r ≡ passes refusal → is_err r ≡ true → WholeCall stored refusal answers n s s r
+refused_call stored None answers n s r e h = let z : ◌≡◌ {A = ℕ} 0 1 = cc in absurd (omega arith)
+refused_call stored (Some f) answers n s r e h = record { outcome = e; slots = refl }

@@ -1,15 +1,17 @@
 -- What a cursor knows, one row on.
-use Rattle.std.proofs.Common.{◌≡◌, ℕ, zero, suc, ◌+◌, ◌-◌, ◌<◌, ◌≤◌, List, reverse, length, ℤ, pos, negsuc, Option, sym, ap, ◌∙◌, subst, arith}
+use Rattle.std.proofs.Common.{◌≡◌, ℕ, zero, suc, ◌+◌, ◌-◌, ◌<◌, ◌≤◌, List, reverse, length, pos, negsuc, Option, sym, ap, ◌∙◌, subst, ⊎_elim, arith}
+use Rattle.std.proofs.lemmas.Bool.{cases_lt}
 use Rattle.std.specs.List.{slice_get}
 use Rattle.column.specs.declared.column.Window.{Window}
 use Rattle.column.specs.declared.column.Column.{Column}
 use Rattle.column.specs.Cells.{column_cells, view}
 use Rattle.column.proofs.Cells.{view-all}
 use Rattle.present.specs.declared.held.Held.{Held}
-use Rattle.present.specs.Present.{at, ahead, from_on, up_to}
+use Rattle.present.specs.Present.{at, before, ahead}
 use Rattle.present.specs.Counting.{Counting, counted_row, oldest_source}
 use Rattle.present.proofs.Ahead.{ahead-same}
-use Rattle.present.proofs.Parts.{behind-before, ahead_part}
+use Rattle.present.proofs.Counts.{number_of}
+use Rattle.present.proofs.Parts.{from_on, up_to, cut, behind-before, ahead_part}
 use Rattle.present.proofs.Counting.{counts_next, after_next, counted-source}
 use Rattle.nth_value.specs.declared.cursor.Reached.{Reached}
 use Rattle.nth_value.specs.declared.kind.NthValueKind.{NthValueKind}
@@ -31,8 +33,14 @@ count_on w rows m row h h' all l e d =
     )
 
 -- the m-th present row from the frame's end, by what is counted up to that end
-pub behind_found : {V : Type 0} (rows : List (Option V)) (m s e : ℕ) (h : Held) (o r : Option ℕ) → 0 < m → s ≤ e → Counting m h rows e → o ≡ oldest_source m h → r ≡ from_on s o → r ≡ slice_get (reverse (ahead (at rows) s (e - s))) (m - 1)
-behind_found rows m s e h o r l le c eo er = er ∙ (ap (from_on s) (eo ∙ counted-source m h rows e l c) ∙ sym (behind-before (at rows) s e (m - 1) le))
+counted_behind : {V : Type 0} (f : ℕ → Option V) (s e j : ℕ) → from_on s (slice_get (before f e) j) ≡ slice_get (reverse (ahead f s (e - s))) j
+counted_behind f s e j = ⊎_elim
+    (λ lt. let z : e - s ≡ 0 = omega arith in sym (cut s (slice_get (before f e) j) (λ r q. omega (arith, (number_of f e j r q).below))) ∙ sym (ap (λ (n : ℕ). slice_get (reverse (ahead f s n)) j) z))
+    (λ ge. sym (behind-before f s e j ge))
+    (cases_lt e s)
+
+pub behind_found : {V : Type 0} (rows : List (Option V)) (m s e : ℕ) (h : Held) (o r : Option ℕ) → 0 < m → Counting m h rows e → o ≡ oldest_source m h → r ≡ from_on s o → r ≡ slice_get (reverse (ahead (at rows) s (e - s))) (m - 1)
+behind_found rows m s e h o r l c eo er = er ∙ (ap (from_on s) (eo ∙ counted-source m h rows e l c) ∙ counted_behind (at rows) s e (m - 1))
 
 -- the m-th present row from the frame's start, by the m-th of all rows from there
 pub ahead_found : {V : Type 0} (f : ℕ → Option V) (n m s e : ℕ) (o r : Option ℕ) → s ≤ e → e ≤ n → o ≡ slice_get (ahead f s (n - s)) (m - 1) → r ≡ up_to e o → r ≡ slice_get (ahead f s (e - s)) (m - 1)
@@ -50,9 +58,9 @@ pub found_cell : {V : Type 0} (c : Column V) (row found : Option ℕ) (x : Optio
 found_cell c row found x e q = q ∙ (cell_same (view (record { begin = 0; rows = c })) (at (column_cells c)) row (λ r h. view-all c r) ∙ ap (cell_of (at (column_cells c))) e)
 
 -- what a function counts to is at least one row off
-pub pick_proper : (kind : NthValueKind) (n : ℤ) → Proper (pick_of kind n)
-pick_proper First n = omega arith
-pick_proper Last n = omega arith
-pick_proper Nth (pos zero) = tt
-pick_proper Nth (pos (suc n)) = omega arith
-pick_proper Nth (negsuc n) = omega arith
+pub pick_proper : (kind : NthValueKind) → Proper (pick_of kind)
+pick_proper First = omega arith
+pick_proper Last = omega arith
+pick_proper (Nth (pos zero)) = tt
+pick_proper (Nth (pos (suc n))) = omega arith
+pick_proper (Nth (negsuc n)) = omega arith

@@ -4,3 +4,4 @@ pub mod Cursors
 pub mod Calls
 pub mod Turned
 pub mod Marks
+pub mod Spans

@@ -16,7 +16,7 @@ use Rattle.nth_value.specs.declared.state.NthValueState.{NthValueState}
 use Rattle.nth_value.specs.Frames.{pick_of, cell_of, value_in}
 use Rattle.nth_value.specs.Settling.{raised, fixed, settled_nth, settled_by}
 use Rattle.nth_value.specs.Nth.{nth_answer, Hides, Holding}
-use Rattle.nth_value.specs.Spans.{start_in, end_in, end_out}
+use Rattle.nth_value.proofs.Spans.{start_in, end_in, end_out}
 use Rattle.nth_value.specs.Local.{value_same}
 use Rattle.nth_value.proofs.Holds.{later, raised_holds, fixed_holds}
 
@@ -78,16 +78,16 @@ module _ {V : Type 0} (p : Partition V) (z : FromZero p) where
   start_stays : (m i j : ℕ) → m - 1 < (frame_at p i).1 → (frame_at p i).1 ≤ (frame_at p j).1 → nth_answer (FromStart m) false p i ≡ nth_answer (FromStart m) false p j
   start_stays m i j h l =
       let f = at p.rows in
-      answer_zero (FromStart m) false i ∙ (ap (cell_of f) (sym (start_in (FromStart m) 0 (frame_at p i).1 m (m - 1) refl refl (omega arith)) ∙ start_in (FromStart m) 0 (frame_at p j).1 m (m - 1) refl refl (omega arith)) ∙ sym (answer_zero (FromStart m) false j))
+      answer_zero (FromStart m) false i ∙ (ap (cell_of f) (start_in 0 (frame_at p i).1 (m - 1) (omega arith) ∙ sym (start_in 0 (frame_at p j).1 (m - 1) (omega arith))) ∙ sym (answer_zero (FromStart m) false j))
 
   -- NULLs respected, counted from the end: the row counted to moves on with the frame's end
   end_free : (m e j : ℕ) → e ≤ (frame_at p j).1 → (cell : ℕ → Option V) → Hides (e - m) p.rows (frame_at p j).1 cell → 0 < m → value_in (FromEnd m) false cell (frame_at p j) ≡ nth_answer (FromEnd m) false p j
   end_free m e j l cell hides pos_m =
       let b : ℕ = (frame_at p j).1 in
       ap (value_in (FromEnd m) false cell) (frame_zero j) ∙ (⊎_elim
-      (λ lt. let o = end_in (FromEnd m) 0 b m (m - 1) refl refl (omega arith) in
+      (λ lt. let o = sym (end_in 0 b (m - 1) (omega arith)) in
       ap (cell_of cell) (sym o) ∙ (⊎_elim (λ s. s) (λ s. absurd (omega (arith, s.0))) (hides (b - 1 - (m - 1)) (omega arith)) ∙ ap (cell_of (at p.rows)) o))
-      (λ ge. let o = end_out (FromEnd m) 0 b m (m - 1) refl refl (omega arith) in
+      (λ ge. let o = sym (end_out 0 b (m - 1) (omega arith)) in
       ap (cell_of cell) (sym o) ∙ ap (cell_of (at p.rows)) o)
       (cases_lt (m - 1) b) ∙ sym (answer_zero (FromEnd m) false j))
 
@@ -149,20 +149,20 @@ module _ {V : Type 0} (h : NthValueState V) (p : Partition V) (i : ℕ) (z : Fro
   settles_from_end n d false q = d
   settles_from_end n d true q = settles_last (suc n) (omega arith) d
 
-  settles_nth : (n : ℤ) → Holding (pick_of Nth n) false h p i → Holding (pick_of Nth n) false (settled_nth n h i (frame_before p i)) p i
+  settles_nth : (n : ℤ) → Holding (pick_of (Nth n)) false h p i → Holding (pick_of (Nth n)) false (settled_nth n h i (frame_before p i)) p i
   settles_nth (pos zero) d = d
   settles_nth (pos (suc n)) d = settles_from_start n d _ refl
   settles_nth (negsuc n) d = settles_from_end n d _ refl
 
-  settles_here : (kind : NthValueKind) (n : ℤ) (ignoring : Bool) → Holding (pick_of kind n) ignoring h p i → Holding (pick_of kind n) ignoring (settled_by kind n ignoring h i (frame_before p i)) p i
-  settles_here First n ignoring d = settles_first ignoring d _ _ refl refl
-  settles_here Last n false d = settles_last 1 (omega arith) d
-  settles_here Last n true d = d
-  settles_here Nth n false d = settles_nth n d
-  settles_here Nth n true d = d
+  settles_here : (kind : NthValueKind) (ignoring : Bool) → Holding (pick_of kind) ignoring h p i → Holding (pick_of kind) ignoring (settled_by kind ignoring h i (frame_before p i)) p i
+  settles_here First ignoring d = settles_first ignoring d _ _ refl refl
+  settles_here Last false d = settles_last 1 (omega arith) d
+  settles_here Last true d = d
+  settles_here (Nth n) false d = settles_nth n d
+  settles_here (Nth n) true d = d
 
-pub settles_holds : {V : Type 0} (kind : NthValueKind) (n : ℤ) (ignoring : Bool) (h : NthValueState V) (p : Partition V) (i : ℕ) (last : Frame) → FromZero p → last ≡ frame_before p i → Holding (pick_of kind n) ignoring h p i → Holding (pick_of kind n) ignoring (settled_by kind n ignoring h i last) p i
-settles_holds kind n ignoring h p i last z e d = subst (λ (f : Frame). Holding (pick_of kind n) ignoring (settled_by kind n ignoring h i f) p i) (sym e) (settles_here h p i z kind n ignoring d)
+pub settles_holds : {V : Type 0} (kind : NthValueKind) (ignoring : Bool) (h : NthValueState V) (p : Partition V) (i : ℕ) (last : Frame) → FromZero p → last ≡ frame_before p i → Holding (pick_of kind) ignoring h p i → Holding (pick_of kind) ignoring (settled_by kind ignoring h i last) p i
+settles_holds kind ignoring h p i last z e d = subst (λ (f : Frame). Holding (pick_of kind) ignoring (settled_by kind ignoring h i f) p i) (sym e) (settles_here h p i z kind ignoring d)
 
 -- the mark never falls
 raised_rises : {V : Type 0} (h : NthValueState V) (m : ℕ) → h.mark ≤ (raised h m).mark
@@ -183,12 +183,12 @@ rises_nth (pos zero) h i last = stays h
 rises_nth (pos (suc n)) h i last = rises_by (leb (suc n) (last.1 - last.0) && ltb (suc n) i) h (fixed h (last.1 - 1)) h (fixed_rises h (last.1 - 1)) (stays h)
 rises_nth (negsuc n) h i last = rises_by (leb (suc n) (last.1 - last.0)) h (raised h (last.1 - suc n)) h (raised_rises h (last.1 - suc n)) (stays h)
 
-pub settling_rises : {V : Type 0} (kind : NthValueKind) (n : ℤ) (ignoring : Bool) (h : NthValueState V) (i : ℕ) (last : Frame) → h.mark ≤ (settled_by kind n ignoring h i last).mark
-settling_rises First n ignoring h i last =
+pub settling_rises : {V : Type 0} (kind : NthValueKind) (ignoring : Bool) (h : NthValueState V) (i : ℕ) (last : Frame) → h.mark ≤ (settled_by kind ignoring h i last).mark
+settling_rises First ignoring h i last =
     let e : ℕ = last.1 - 1 in
     let c : Bool = ignoring && not (is_some h.last_answer) in
     rises_by (ltb last.0 last.1) h (cond c (raised h e) (fixed h e)) h (rises_by c h (raised h e) (fixed h e) (raised_rises h e) (fixed_rises h e)) (stays h)
-settling_rises Last n false h i last = raised_rises h (last.1 - 1)
-settling_rises Last n true h i last = stays h
-settling_rises Nth n false h i last = rises_nth n h i last
-settling_rises Nth n true h i last = stays h
+settling_rises Last false h i last = raised_rises h (last.1 - 1)
+settling_rises Last true h i last = stays h
+settling_rises (Nth n) false h i last = rises_nth n h i last
+settling_rises (Nth n) true h i last = stays h

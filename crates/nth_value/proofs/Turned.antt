@@ -1,22 +1,21 @@
 -- The same function from the other end, on turned rows and frames.
-use Rattle.std.proofs.Common.{◌≡◌, ℕ, zero, suc, ◌+◌, ◌-◌, ◌<◌, ◌≤◌, Bool, true, false, cond, ◌⊎◌, List, [], ◌∷◌, map, reverse, length, get_or, ℤ, pos, negsuc, neg_ℤ, is_some, Some, None, Option, sym, refl, ap, ◌∙◌, inl, inr, ⊎_elim, arith, w64, SFits}
+use Rattle.std.proofs.Common.{◌≡◌, ℕ, zero, suc, ◌+◌, ◌-◌, ◌<◌, ◌≤◌, Bool, true, false, ◌⊎◌, List, [], ◌∷◌, map, reverse, length, get_or, ℤ, pos, negsuc, neg_ℤ, is_some, Some, None, Option, sym, refl, ap, ◌∙◌, inl, inr, ⊎_elim, arith, w64, SFits}
 use mathlib.Core.List.{reverse_aux}
 use Rattle.std.specs.Option.{option_map}
 use Rattle.std.specs.List.{slice_get}
-use Rattle.std.proofs.lemmas.List.{get_or-reverse, length-reverse, reverse-reverse}
-use Rattle.std.proofs.lemmas.Option.{slice_get_past}
+use Rattle.std.proofs.lemmas.List.{length-reverse, reverse-reverse}
+use Rattle.std.proofs.lemmas.Option.{slice_get-map, slice_get_past}
 use Rattle.column.specs.Cells.{cells}
 use Rattle.column.specs.Refusal.{row_limit}
 use Rattle.column.proofs.Cells.{length-cells}
 use Rattle.partition.specs.Table.{Frame, Input, row_count, whole_refusal}
 use Rattle.partition.proofs.Accepted.{whole_says}
-use Rattle.evaluator.specs.Arguments.{opposite}
 use Rattle.evaluator.specs.Meaning.{partition}
 use Rattle.evaluator.specs.Mirror.{turned, turned_frame}
 use Rattle.evaluator.proofs.Opposites.{opposite_is}
 use Rattle.evaluator.proofs.Turned.{cells-turned, frame-turned}
 use Rattle.present.specs.Present.{at, ahead}
-use Rattle.present.proofs.Behind.{behind_push}
+use Rattle.present.proofs.Turned.{turn, at_turned, ahead-turned, ahead_short}
 use Rattle.nth_value.specs.declared.kind.NthValueKind.{NthValueKind}
 use Rattle.nth_value.specs.declared.kind.NthValueKind.TheVariants.{First, Last, Nth}
 use Rattle.nth_value.specs.declared.kind.Pick.{Pick}
@@ -26,34 +25,11 @@ use Rattle.nth_value.specs.Nth.{nth_answer, turned_kind}
 use Rattle.nth_value.specs.Spans.{full, span-full}
 use Rattle.nth_value.specs.Local.{picked-within}
 
--- the row that row r of n becomes
-abbrev turn : ℕ → ℕ → ℕ
-turn n r = n - 1 - r
-
 -- from the start becomes from the end
 abbrev pub turned_pick : Pick → Pick
 turned_pick Nothing = Nothing
 turned_pick (FromStart m) = FromEnd m
 turned_pick (FromEnd m) = FromStart m
-
-nth-map : (t : ℕ → ℕ) (xs : List ℕ) (k : ℕ) → slice_get (map t xs) k ≡ option_map t (slice_get xs k)
-nth-map t [] k = refl
-nth-map t (x ∷ xs) zero = refl
-nth-map t (x ∷ xs) (suc k) = nth-map t xs k
-
-both : (b : Bool) (x i : ℕ) (t : ℕ → ℕ) (xs ys : List ℕ) → x ≡ t i → xs ≡ map t ys → cond b (x ∷ xs) xs ≡ map t (cond b (i ∷ ys) ys)
-both true x i t xs ys e q = ap (λ (k : ℕ). k ∷ xs) e ∙ ap (λ (zs : List ℕ). t i ∷ zs) q
-both false x i t xs ys e q = q
-
--- the present rows of a stretch, turned, are those of the turned stretch from its last
-ahead-turned : {V W : Type 0} (n : ℕ) (f : ℕ → Option V) (g : ℕ → Option W) → ((r : ℕ) → r < n → is_some (g (turn n r)) ≡ is_some (f r)) → (s k : ℕ) → s + k ≤ n → ahead g (n - (s + k)) k ≡ map (turn n) (reverse (ahead f s k))
-ahead-turned n f g same s zero h = refl
-ahead-turned n f g same s (suc k) h =
-    let here : n - (s + suc k) ≡ turn n (s + k) = omega arith in
-    let on : n - (s + suc k) + 1 ≡ n - (s + k) = omega arith in
-    let cell : is_some (g (n - (s + suc k))) ≡ is_some (f (s + k)) = ap (λ (x : ℕ). is_some (g x)) here ∙ same (s + k) (omega arith) in
-    let rest : ahead g (n - (s + suc k) + 1) k ≡ map (turn n) (reverse (ahead f s k)) = ap (λ (x : ℕ). ahead g x k) on ∙ ahead-turned n f g same s k (omega arith) in
-    ap (λ (b : Bool). cond b ((n - (s + suc k)) ∷ ahead g (n - (s + suc k) + 1) k) (ahead g (n - (s + suc k) + 1) k)) cell ∙ (both (is_some (f (s + k))) (n - (s + suc k)) (s + k) (turn n) (ahead g (n - (s + suc k) + 1) k) (reverse (ahead f s k)) here rest ∙ sym (ap (map (turn n)) (behind_push f s k)))
 
 stretch_turned : {V W : Type 0} (n : ℕ) (f : ℕ → Option V) (g : ℕ → Option W) → ((r : ℕ) → r < n → is_some (g (turn n r)) ≡ is_some (f r)) → (s e : ℕ) → s ≤ e → e ≤ n → ahead g (n - e) (n - s - (n - e)) ≡ map (turn n) (reverse (ahead f s (e - s)))
 stretch_turned n f g same s e h l =
@@ -72,26 +48,20 @@ module _ {V : Type 0} (cs : List (Option V)) where
   abbrev n : ℕ
   n = length cs
 
-  -- a row's cell is that of the row that it becomes
-  at_turned : (r : ℕ) → r < n → at (reverse cs) (turn n r) ≡ at cs r
-  at_turned r h =
-      let e : n - 1 - (n - 1 - r) ≡ r = omega arith in
-      get_or-reverse cs (n - 1 - r) None (omega arith) ∙ ap (λ (k : ℕ). get_or cs k None) e
-
   -- the rows of a frame, turned
   rows-turned : (ignoring : Bool) (s e : ℕ) → s ≤ e → e ≤ n → frame_rows ignoring (at (reverse cs)) (n - e, n - s) ≡ map (turn n) (reverse (frame_rows ignoring (at cs) (s, e)))
   rows-turned false s e h l = span-full (n - e) (n - s - (n - e)) ∙ (stretch_turned n full full (λ r u. refl) s e h l ∙ ap (λ (xs : List ℕ). map (turn n) (reverse xs)) (sym (span-full s (e - s))))
-  rows-turned true s e h l = stretch_turned n (at cs) (at (reverse cs)) (λ r u. ap is_some (at_turned r u)) s e h l
+  rows-turned true s e h l = stretch_turned n (at cs) (at (reverse cs)) (λ r u. ap is_some (at_turned cs r u)) s e h l
 
   -- the row counted to
   pick_turned : (pick : Pick) (xs : List ℕ) → picked (turned_pick pick) (map (turn n) (reverse xs)) ≡ option_map (turn n) (picked pick xs)
   pick_turned Nothing xs = refl
-  pick_turned (FromStart m) xs = ap (λ (ys : List ℕ). slice_get ys (m - 1)) (reverse-map (turn n) xs) ∙ nth-map (turn n) xs (m - 1)
-  pick_turned (FromEnd m) xs = nth-map (turn n) (reverse xs) (m - 1)
+  pick_turned (FromStart m) xs = ap (λ (ys : List ℕ). slice_get ys (m - 1)) (reverse-map (turn n) xs) ∙ slice_get-map (turn n) xs (m - 1)
+  pick_turned (FromEnd m) xs = slice_get-map (turn n) (reverse xs) (m - 1)
 
   cell_turned : (o : Option ℕ) → ((r : ℕ) → o ≡ Some r → r < n) → cell_of (at (reverse cs)) (option_map (turn n) o) ≡ cell_of (at cs) o
   cell_turned None h = refl
-  cell_turned (Some r) h = at_turned r (h r refl)
+  cell_turned (Some r) h = at_turned cs r (h r refl)
 
   -- the answer over a frame
   pub value_turned : (pick : Pick) (ignoring : Bool) (s e : ℕ) → s ≤ e → e ≤ n → value_in (turned_pick pick) ignoring (at (reverse cs)) (n - e, n - s) ≡ value_in pick ignoring (at cs) (s, e)
@@ -101,14 +71,6 @@ module _ {V : Type 0} (cs : List (Option V)) where
 -- the smallest number is its own opposite, and counts further than any partition has rows
 abbrev far : ℕ
 far = 9223372036854775808
-
-cond_short : (b : Bool) (x k : ℕ) (xs : List ℕ) → length xs ≤ k → length (cond b (x ∷ xs) xs) ≤ suc k
-cond_short true x k xs h = omega arith
-cond_short false x k xs h = omega arith
-
-ahead_short : {V : Type 0} (f : ℕ → Option V) (s k : ℕ) → length (ahead f s k) ≤ k
-ahead_short f s zero = omega arith
-ahead_short f s (suc k) = cond_short (is_some (f s)) s k (ahead f (s + 1) k) (ahead_short f (s + 1) k)
 
 rows_short : {V : Type 0} (ignoring : Bool) (f : ℕ → Option V) (s e : ℕ) → length (frame_rows ignoring f (s, e)) ≤ e
 rows_short false f s e = omega (arith, ap length (span-full s (e - s)), ahead_short full s (e - s))
@@ -124,24 +86,24 @@ negated_nth (pos zero) = refl
 negated_nth (pos (suc n)) = refl
 negated_nth (negsuc n) = refl
 
-pick_opposite : (kind : NthValueKind) (z : ℤ) → SFits w64 z → (pick_of (turned_kind kind) (opposite z) ≡ turned_pick (pick_of kind z)) ⊎ ((pick_of (turned_kind kind) (opposite z) ≡ FromEnd far) × (pick_of kind z ≡ FromEnd far))
-pick_opposite First z f = inl refl
-pick_opposite Last z f = inl refl
-pick_opposite Nth z f = ⊎_elim
+pick_opposite : (kind : NthValueKind) → ((z : ℤ) → kind ≡ Nth z → SFits w64 z) → (pick_of (turned_kind kind) ≡ turned_pick (pick_of kind)) ⊎ ((pick_of (turned_kind kind) ≡ FromEnd far) × (pick_of kind ≡ FromEnd far))
+pick_opposite First f = inl refl
+pick_opposite Last f = inl refl
+pick_opposite (Nth z) f = ⊎_elim
     (λ e. inl (ap pick_nth e ∙ negated_nth z))
     (λ e. inr (ap pick_nth (e.1 ∙ e.0), ap pick_nth e.0))
-    (opposite_is z f)
+    (opposite_is z (f z refl))
 
 -- the mirror's answer at row n - 1 - i of the turned partition is the evaluator's at row i
-pub nth-turned : {V : Type 0} (same : V → V → Bool) (kind : NthValueKind) (z : ℤ) (ignoring : Bool) → SFits w64 z → (x : Input V) (size : ℕ) → whole_refusal same true false x size ≡ None → (i : ℕ) → i < row_count x → nth_answer (pick_of (turned_kind kind) (opposite z)) ignoring (partition true (turned same x)) (row_count x - 1 - i) ≡ nth_answer (pick_of kind z) ignoring (partition true x) i
-nth-turned {V} same kind z ignoring fits x size ok i h =
+pub nth-turned : {V : Type 0} (same : V → V → Bool) (kind : NthValueKind) (ignoring : Bool) → ((z : ℤ) → kind ≡ Nth z → SFits w64 z) → (x : Input V) (size : ℕ) → whole_refusal same true false x size ≡ None → (i : ℕ) → i < row_count x → nth_answer (pick_of (turned_kind kind)) ignoring (partition true (turned same x)) (row_count x - 1 - i) ≡ nth_answer (pick_of kind) ignoring (partition true x) i
+nth-turned {V} same kind ignoring fits x size ok i h =
     let a = whole_says same true false x size ok in
     let cs : List (Option V) = cells x.values x.marks in
     let long : length cs ≡ row_count x = length-cells x.values x.marks a.lengths in
     let f : Frame = get_or x.frames i (0, 0) in
     let fit = a.fit i (omega (arith, a.framed refl)) in
-    let there : Pick = pick_of (turned_kind kind) (opposite z) in
-    let here : Pick = pick_of kind z in
+    let there : Pick = pick_of (turned_kind kind) in
+    let here : Pick = pick_of kind in
     let moved : nth_answer there ignoring (partition true (turned same x)) (row_count x - 1 - i) ≡ value_in there ignoring (at (reverse cs)) (length cs - f.1, length cs - f.0) =
     ap (λ (rows : List (Option V)). value_in there ignoring (at rows) (get_or (map (turned_frame (row_count x)) (reverse x.frames)) (row_count x - 1 - i) (0, 0))) (cells-turned x.values x.marks a.lengths)
     ∙ (ap (value_in there ignoring (at (reverse cs))) (frame-turned (row_count x) x.frames i (a.framed refl) h)
@@ -149,4 +111,4 @@ nth-turned {V} same kind z ignoring fits x size ok i h =
     moved ∙ ⊎_elim
     (λ e. ap (λ (p : Pick). value_in p ignoring (at (reverse cs)) (length cs - f.1, length cs - f.0)) e ∙ value_turned cs here ignoring f.0 f.1 fit.0 (omega (arith, fit.1, long)))
     (λ e. ap (λ (p : Pick). value_in p ignoring (at (reverse cs)) (length cs - f.1, length cs - f.0)) e.0 ∙ (far_none ignoring (at (reverse cs)) (length cs - f.1) (length cs - f.0) (omega (arith, long, a.limited)) ∙ sym (ap (λ (p : Pick). value_in p ignoring (at cs) f) e.1 ∙ far_none ignoring (at cs) f.0 f.1 (omega (arith, fit.1, a.limited)))))
-    (pick_opposite kind z fits)
+    (pick_opposite kind fits)

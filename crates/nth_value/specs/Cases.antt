@@ -10,7 +10,7 @@ column_a = Some 5 ∷ None ∷ Some 7 ∷ None ∷ None ∷ Some 9 ∷ []
 
 -- NTH of frame (1, 4), ignoring NULLs or not
 abbrev pub nth_of : ℤ → Bool → Option ℕ
-nth_of n ignoring = value_in (pick_of Nth n) ignoring (at column_a) (1, 4)
+nth_of n ignoring = value_in (pick_of (Nth n)) ignoring (at column_a) (1, 4)
 
 -- the cases, so many
 pub record Cases (count : ℕ) : Type 0 where
@@ -19,6 +19,6 @@ pub record Cases (count : ℕ) : Type 0 where
   pub nth_2_ignoring : nth_of (pos 2) true ≡ None
   pub nth_from_end_ignoring : nth_of (negsuc 0) true ≡ Some 7
   pub nth_0 : nth_of (pos 0) false ≡ None
-  pub first_ignoring : value_in (pick_of First (pos 0)) true (at column_a) (1, 4) ≡ Some 7
-  pub last_respecting : value_in (pick_of Last (pos 0)) false (at column_a) (1, 4) ≡ None
-  pub empty_frame : value_in (pick_of First (pos 0)) false (at column_a) (2, 2) ≡ None
+  pub first_ignoring : value_in (pick_of First) true (at column_a) (1, 4) ≡ Some 7
+  pub last_respecting : value_in (pick_of Last) false (at column_a) (1, 4) ≡ None
+  pub empty_frame : value_in (pick_of First) false (at column_a) (2, 2) ≡ None

@@ -1,6 +1,6 @@
 -- FIRST, LAST and NTH: the row of a frame that is counted to.
-use Rattle.std.specs.Prelude.{ℕ, zero, suc, ◌+◌, ◌-◌, Bool, true, false, List, [], ◌∷◌, reverse, ℤ, pos, negsuc, Some, None, Option}
-use Rattle.std.specs.List.{slice_get}
+use Rattle.std.specs.Prelude.{ℕ, zero, suc, ◌-◌, Bool, true, false, List, reverse, ℤ, pos, negsuc, Some, None, Option}
+use Rattle.std.specs.List.{slice_get, range_with_len}
 use Rattle.partition.specs.Table.{Frame}
 use Rattle.present.specs.Present.{ahead}
 use Rattle.nth_value.specs.declared.kind.NthValueKind.{NthValueKind}
@@ -8,14 +8,9 @@ use Rattle.nth_value.specs.declared.kind.NthValueKind.TheVariants.{First, Last, 
 use Rattle.nth_value.specs.declared.kind.Pick.{Pick}
 use Rattle.nth_value.specs.declared.kind.Pick.TheVariants.{Nothing, FromStart, FromEnd}
 
--- n rows from row s on
-abbrev pub span : ℕ → ℕ → List ℕ
-span s zero = []
-span s (suc n) = s ∷ span (s + 1) n
-
 -- the rows that a frame takes, in order: only the present ones if NULLs are ignored
 abbrev pub frame_rows : {V : Type 0} → Bool → (ℕ → Option V) → Frame → List ℕ
-frame_rows false cell f = span f.0 (f.1 - f.0)
+frame_rows false cell f = range_with_len f.0 (f.1 - f.0)
 frame_rows true cell f = ahead cell f.0 (f.1 - f.0)
 
 -- a positive n counts from the start, a negative one from the end, and 0 counts to no row
@@ -25,10 +20,10 @@ pick_nth (pos (suc n)) = FromStart (suc n)
 pick_nth (negsuc n) = FromEnd (suc n)
 
 -- FIRST counts 1 from the start, LAST 1 from the end
-abbrev pub pick_of : NthValueKind → ℤ → Pick
-pick_of First n = FromStart 1
-pick_of Last n = FromEnd 1
-pick_of Nth n = pick_nth n
+abbrev pub pick_of : NthValueKind → Pick
+pick_of First = FromStart 1
+pick_of Last = FromEnd 1
+pick_of (Nth n) = pick_nth n
 
 -- the row counted to, if the frame has so many
 abbrev pub picked : Pick → List ℕ → Option ℕ

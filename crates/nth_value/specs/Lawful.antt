@@ -43,5 +43,5 @@ nth_lawful e = record {
       let s = settled_says i (length rows) false (nat_le (get_or frames i (0, 0)).1 (length rows)) h in
       let e : (get_or frames i (0, 0)).1 ≤ length rows = leb-true _ (length rows) (s.1 refl) in
       settled_by i (length (rows ++ more)) false (nat_le (get_or frames i (0, 0)).1 (length (rows ++ more))) (omega (arith, s.0, length-append rows more)) (le-leb _ (length (rows ++ more)) (omega (arith, e, length-append rows more)));
-  local = λ p q a known i er ef len h. nth_local (pick_of e.kind e.n) e.ignore_nulls p q a known i er ef len h;
+  local = λ p q a known i er ef len h. nth_local (pick_of e.kind) e.ignore_nulls p q a known i er ef len h;
 }

@@ -1,20 +1,17 @@
 -- An answer over a frame depends on the frame's rows alone.
-use Rattle.std.specs.Prelude.{◌≡◌, ℕ, ◌-◌, ◌<◌, ◌≤◌, Bool, true, false, cond, List, reverse, Some, None, Option, nat_le, refl}
+use Rattle.std.specs.Prelude.{◌≡◌, ℕ, ◌-◌, ◌<◌, ◌≤◌, Bool, true, false, List, reverse, Some, None, Option, nat_le, refl}
 use Rattle.std.proofs.Common.{sym, ◌∙◌, ap, ⊎_elim, arith}
 use Rattle.std.specs.List.{slice_get}
 use Rattle.std.proofs.lemmas.Bool.{cases_lt, leb-true}
-use Rattle.present.specs.Present.{before, ahead, from_on}
-use Rattle.present.proofs.Counts.{number_of, some_same}
+use Rattle.std.proofs.lemmas.Option.{cond_some}
+use Rattle.present.specs.Present.{before, ahead}
+use Rattle.present.proofs.Counts.{number_of}
 use Rattle.present.proofs.Ahead.{ahead-number, ahead-same}
-use Rattle.present.proofs.Parts.{behind-before}
+use Rattle.present.proofs.Parts.{from_on, behind-before}
 use Rattle.nth_value.specs.declared.kind.Pick.{Pick}
 use Rattle.nth_value.specs.declared.kind.Pick.TheVariants.{Nothing, FromStart, FromEnd}
 use Rattle.nth_value.specs.Frames.{frame_rows, picked, cell_of, value_in}
 use Rattle.nth_value.specs.Spans.{full, span-full}
-
-cond_some : (b : Bool) (x r : ℕ) → cond b (Some x) None ≡ Some r → (b ≡ true) × (x ≡ r)
-cond_some true x r h = (refl, some_same x r h)
-cond_some false x r h = let z : ◌≡◌ {A = ℕ} 0 1 = cc in absurd (omega arith)
 
 -- a row from row s on that was found
 from-says : (s : ℕ) (o : Option ℕ) (r : ℕ) → from_on s o ≡ Some r → (s ≤ r) × (o ≡ Some r)

@@ -48,15 +48,15 @@ pub record Holding {V : Type 0} (pick : Pick) (ignoring : Bool) (h : NthValueSta
 -- the meaning of FIRST, LAST or NTH
 abbrev pub nth_meaning : {V : Type 0} → NthValue V → Meaning V (Option V)
 nth_meaning e = record {
-  answer = nth_answer (pick_of e.kind e.n) e.ignore_nulls;
-  stands = λ p i. Holding (pick_of e.kind e.n) e.ignore_nulls e.state p i;
+  answer = nth_answer (pick_of e.kind) e.ignore_nulls;
+  stands = λ p i. Holding (pick_of e.kind) e.ignore_nulls e.state p i;
   settled = frame_settled;
   keep = e.state.mark;
 }
 
 -- the same function, holding this
 abbrev pub holding : {V : Type 0} → NthValue V → NthValueState V → NthValue V
-holding e h = record { kind = e.kind; n = e.n; ignore_nulls = e.ignore_nulls; state = h }
+holding e h = record { kind = e.kind; ignore_nulls = e.ignore_nulls; state = h }
 
 -- the same function, holding nothing
 abbrev pub nth_renewed : {V : Type 0} → NthValue V → NthValue V
@@ -64,25 +64,25 @@ nth_renewed e = holding e start
 
 -- what an accepted row call leaves
 abbrev pub nth_stepped : {V : Type 0} → NthValue V → ℕ → Window V → Frame → NthValue V
-nth_stepped e i w f = holding e (answered e.state (answer_by (pick_of e.kind e.n) e.ignore_nulls e.state (view w) f) f)
+nth_stepped e i w f = holding e (answered e.state (answer_by (pick_of e.kind) e.ignore_nulls e.state (view w) f) f)
 
 -- what settling leaves
 abbrev pub nth_settling : {V : Type 0} → NthValue V → ℕ → Frame → NthValue V
-nth_settling e i f = holding e (settled_by e.kind e.n e.ignore_nulls e.state i f)
+nth_settling e i f = holding e (settled_by e.kind e.ignore_nulls e.state i f)
 
--- FIRST and LAST change places
+-- FIRST and LAST change places, and n is negated
 abbrev pub turned_kind : NthValueKind → NthValueKind
 turned_kind First = Last
 turned_kind Last = First
-turned_kind Nth = Nth
+turned_kind (Nth n) = Nth (opposite n)
 
--- the same function from the other end: n negated
+-- the same function from the other end
 abbrev pub nth_mirrored : {V : Type 0} → NthValue V → NthValue V
-nth_mirrored e = record { kind = turned_kind e.kind; n = opposite e.n; ignore_nulls = e.ignore_nulls; state = start }
+nth_mirrored e = record { kind = turned_kind e.kind; ignore_nulls = e.ignore_nulls; state = start }
 
 -- a new FIRST, LAST or NTH
-abbrev pub new_of : {V : Type 0} → NthValueKind → ℤ → Bool → NthValue V
-new_of kind n ignoring = record { kind = kind; n = n; ignore_nulls = ignoring; state = start }
+abbrev pub new_of : {V : Type 0} → NthValueKind → Bool → NthValue V
+new_of kind ignoring = record { kind = kind; ignore_nulls = ignoring; state = start }
 
 -- -2^63, or below
 abbrev pub too_small : ℤ → Bool
@@ -93,7 +93,7 @@ too_small (negsuc a) = nat_le 9223372036854775807 a
 abbrev pub nth_by : {V : Type 0} → Bool → Result (Option ℤ) Fault → Result (NthValue V) Fault
 nth_by ignoring (Err f) = Err f
 nth_by ignoring (Ok None) = Err (MissingArgument 1)
-nth_by ignoring (Ok (Some n)) = cond (too_small n) (Err (TooSmall 1)) (Ok (new_of Nth n ignoring))
+nth_by ignoring (Ok (Some n)) = cond (too_small n) (Err (TooSmall 1)) (Ok (new_of (Nth n) ignoring))
 
 -- a new NTH, or the refusal of its argument
 abbrev pub making : {V : Type 0} → Argument → Bool → Result (NthValue V) Fault

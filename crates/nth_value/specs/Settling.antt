@@ -39,12 +39,12 @@ settled_nth (pos (suc n)) h given f = cond (nat_le (suc n) (f.1 - f.0) && nat_lt
 settled_nth (negsuc n) h given f = cond (nat_le (suc n) (f.1 - f.0)) (raised h (f.1 - suc n)) h
 
 -- settling after so many answers, the last over this frame
-abbrev pub settled_by : {V : Type 0} → NthValueKind → ℤ → Bool → NthValueState V → ℕ → Frame → NthValueState V
-settled_by First n ignoring h given f = settled_first ignoring h f
-settled_by Last n false h given f = raised h (f.1 - 1)
-settled_by Last n true h given f = h
-settled_by Nth n false h given f = settled_nth n h given f
-settled_by Nth n true h given f = h
+abbrev pub settled_by : {V : Type 0} → NthValueKind → Bool → NthValueState V → ℕ → Frame → NthValueState V
+settled_by First ignoring h given f = settled_first ignoring h f
+settled_by Last false h given f = raised h (f.1 - 1)
+settled_by Last true h given f = h
+settled_by (Nth n) false h given f = settled_nth n h given f
+settled_by (Nth n) true h given f = h
 
 -- what accepted rows leave, each an answer and its frame, without settling
 abbrev pub unsettled : {V : Type 0} → NthValueState V → List (Option V × Frame) → NthValueState V

@@ -32,8 +32,8 @@ impl<K: Kind> NthValueState<K> {
     {
         NthValueState {
             last_answer: answer,
-            finalized_result: self.finalized_result,
             mark: self.mark.max(frame.0),
+            ..self
         }
     }
 
@@ -41,9 +41,8 @@ impl<K: Kind> NthValueState<K> {
         ensures { result ≡ raised self mark }
     {
         NthValueState {
-            last_answer: self.last_answer,
-            finalized_result: self.finalized_result,
             mark: self.mark.max(mark),
+            ..self
         }
     }
 
@@ -52,9 +51,8 @@ impl<K: Kind> NthValueState<K> {
         ensures { result ≡ fixed self mark }
     {
         NthValueState {
-            last_answer: self.last_answer,
             finalized_result: Some(self.last_answer),
-            mark: self.mark.max(mark),
+            ..self.raised(mark)
         }
     }
 
@@ -90,29 +88,17 @@ impl<K: Kind> NthValueState<K> {
     pub(crate) fn settled(
         self,
         kind: NthValueKind,
-        n: i64,
         ignore_nulls: bool,
         given: usize,
         last: (usize, usize),
     ) -> NthValueState<K>
-        ensures { result ≡ settled_by kind n ignore_nulls self given last }
+        ensures { result ≡ settled_by kind ignore_nulls self given last }
     {
         match kind {
             NthValueKind::First => self.settled_first(ignore_nulls, last),
-            NthValueKind::Last => {
-                if ignore_nulls {
-                    self
-                } else {
-                    self.raised(last.1.saturating_sub(1))
-                }
-            }
-            NthValueKind::Nth => {
-                if ignore_nulls {
-                    self
-                } else {
-                    self.settled_nth(n, given, last)
-                }
-            }
+            _ if ignore_nulls => self,
+            NthValueKind::Last => self.raised(last.1.saturating_sub(1)),
+            NthValueKind::Nth(n) => self.settled_nth(n, given, last),
         }
     }
 }

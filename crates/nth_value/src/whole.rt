@@ -7,17 +7,15 @@ ghost use Rattle.column.specs.Refusal.{row_limit};
 ghost use Rattle.nth_value.specs.Cursors.{Proper};
 ghost use Rattle.nth_value.specs.Nth.{frame_answers};
 
-use crate::cursor::{cursor_of, find};
-use crate::frames::cell_of;
-use crate::kind::Pick;
+use crate::cursor::Cursor;
+use crate::frames::{Seek, cell_of};
 use column::column::{Column, Window};
 use column::kind::Kind;
 use column::output::Output;
 
 // Writes the answer over each frame.
 pub(crate) fn write_all<K: Kind, O: Output<Option<K>>>(
-    pick: Pick,
-    ignore_nulls: bool,
+    seek: Seek,
     column: &Column<'_, K>,
     frames: &[(usize, usize)],
     out: &mut O,
@@ -27,8 +25,8 @@ pub(crate) fn write_all<K: Kind, O: Output<Option<K>>>(
     requires framed { length frames.now ≡ length column.now.values.now }
     requires fit { (i : ℕ) → i < length frames.now → ((slice_index_or frames.now i (0, 0)).0 ≤ (slice_index_or frames.now i (0, 0)).1) × ((slice_index_or frames.now i (0, 0)).1 ≤ length column.now.values.now) }
     requires room { length column.now.values.now ≤ O.Output.size (O.Output.slots out.old) }
-    requires proper { Proper pick }
-    ensures slots { O.Output.slots out.new ≡ written O.Output.stored (frame_answers pick ignore_nulls (column_cells column.now) frames.now) (O.Output.slots out.old) (length column.now.values.now) }
+    requires proper { Proper seek.pick }
+    ensures slots { O.Output.slots out.new ≡ written O.Output.stored (frame_answers seek.pick seek.ignore_nulls (column_cells column.now) frames.now) (O.Output.slots out.old) (length column.now.values.now) }
     ensures place { O.Output.place out.old out.new }
 {
     let window = Window {
@@ -36,10 +34,9 @@ pub(crate) fn write_all<K: Kind, O: Output<Option<K>>>(
         rows: *column,
     };
     let n = column.values.len();
-    let mut cursor = cursor_of(pick, ignore_nulls, &window, n);
+    let mut cursor = Cursor::new(seek, &window, n);
     for (i, frame) in frames.iter().enumerate() {
-        let (next, row) = find(cursor, &window, n, *frame);
-        cursor = next;
+        let row = cursor.find(&window, n, *frame);
         out.put(i, cell_of(&window, row));
     }
 }

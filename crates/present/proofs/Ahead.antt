@@ -1,14 +1,10 @@
 -- The present rows ahead of a row: which they are, and what they depend on.
-use Rattle.std.proofs.Common.{◌≡◌, ℕ, zero, suc, ◌+◌, ◌-◌, ◌<◌, ◌≤◌, Bool, true, false, cond, leb, List, [], ◌∷◌, length, is_some, Some, None, Option, sym, refl, ap, ◌∙◌, subst, ⊎_elim, add-one, arith}
+use Rattle.std.proofs.Common.{◌≡◌, ℕ, zero, suc, ◌+◌, ◌-◌, ◌<◌, ◌≤◌, Bool, true, false, cond, leb, List, [], ◌∷◌, length, get_or, is_some, Some, None, Option, sym, refl, ap, ◌∙◌, subst, ⊎_elim, add-one, arith}
 use Rattle.std.specs.List.{slice_get}
 use Rattle.std.proofs.lemmas.Bool.{cases_lt, le-leb, lt-leb}
-use Rattle.std.proofs.lemmas.Option.{slice_get_past}
+use Rattle.std.proofs.lemmas.Option.{same_Some, slice_get_past, slice_get-get_or}
 use Rattle.present.specs.Present.{before, ahead}
-use Rattle.present.proofs.Counts.{ahead_past, ahead_on, ahead_none, count_suc, some_same}
-
-cond-length : (b : Bool) (x : ℕ) (xs : List ℕ) → length (cond b (x ∷ xs) xs) ≡ length xs + cond b 1 0
-cond-length true x xs = omega arith
-cond-length false x xs = omega arith
+use Rattle.present.proofs.Counts.{ahead_past, ahead_on, ahead_none, cond-length, count_suc}
 
 pub count_more : {V : Type 0} (f : ℕ → Option V) (i : ℕ) → length (before f (i + 1)) ≡ length (before f i) + cond (is_some (f i)) 1 0
 count_more f i = ap (λ (n : ℕ). length (before f n)) (add-one i) ∙ count_suc f i
@@ -29,7 +25,7 @@ pub record AheadNumber {V : Type 0} (f : ℕ → Option V) (k n j r : ℕ) : Typ
 
 ahead_step : {V : Type 0} (f : ℕ → Option V) (k n j r : ℕ) (b : Bool) → is_some (f k) ≡ b → ((x : ℕ) → slice_get (ahead f (k + 1) n) x ≡ Some r → AheadNumber f (k + 1) n x r) → slice_get (cond b (k ∷ ahead f (k + 1) n) (ahead f (k + 1) n)) j ≡ Some r → AheadNumber f k (suc n) j r
 ahead_step f k n zero r true e ih h =
-    let s : k ≡ r = some_same k r h in
+    let s : k ≡ r = same_Some k r h in
     subst (λ (x : ℕ). AheadNumber f k (suc n) 0 x) s (record { from = omega arith; below = omega arith; present = e; counts = omega arith })
 ahead_step f k n (suc j) r true e ih h =
     let d = ih j h in
@@ -68,16 +64,9 @@ ahead-same f g k (suc n) h =
     let t : ahead f (k + 1) n ≡ ahead g (k + 1) n = ahead-same f g (k + 1) n (λ x l m. h x (omega arith) (omega arith)) in
     ap (λ y. cond (is_some y) (k ∷ ahead f (k + 1) n) (ahead f (k + 1) n)) e ∙ ap (λ (xs : List ℕ). cond (is_some (g k)) (k ∷ xs) xs) t
 
--- whether a list has a number j
+-- a list has each number below its length
 pub nth-within : (xs : List ℕ) (j : ℕ) → j < length xs → (r : ℕ) × (slice_get xs j ≡ Some r)
-nth-within [] j h = absurd (omega arith)
-nth-within (x ∷ xs) zero h = (x, refl)
-nth-within (x ∷ xs) (suc j) h = nth-within xs j (omega arith)
-
-pub within-nth : (xs : List ℕ) (j r : ℕ) → slice_get xs j ≡ Some r → j < length xs
-within-nth [] j r h = let z : ◌≡◌ {A = ℕ} 0 1 = cc in absurd (omega arith)
-within-nth (x ∷ xs) zero r h = omega arith
-within-nth (x ∷ xs) (suc j) r h = omega (arith, within-nth xs j r h)
+nth-within xs j h = (get_or xs j 0, slice_get-get_or xs j 0 h)
 
 pub nth_has : (xs : List ℕ) (m : ℕ) → 0 < m → is_some (slice_get xs (m - 1)) ≡ leb m (length xs)
 nth_has xs m p = ⊎_elim (λ lt. let d = nth-within xs (m - 1) (omega arith) in ap is_some d.1 ∙ sym (le-leb m (length xs) (omega arith))) (λ ge. ap is_some (slice_get_past xs (m - 1) (omega arith)) ∙ sym (lt-leb m (length xs) (omega arith))) (cases_lt (m - 1) (length xs))
@@ -85,7 +74,7 @@ nth_has xs m p = ⊎_elim (λ lt. let d = nth-within xs (m - 1) (omega arith) in
 -- the present row after a present row is the next of them
 follow_step : {V : Type 0} (f : ℕ → Option V) (k l j o : ℕ) (b : Bool) → ((x : ℕ) → slice_get (ahead f (k + 1) l) x ≡ Some o → slice_get (ahead f (k + 1) l) (suc x) ≡ slice_get (ahead f (o + 1) (k + suc l - (o + 1))) 0) → slice_get (cond b (k ∷ ahead f (k + 1) l) (ahead f (k + 1) l)) j ≡ Some o → slice_get (cond b (k ∷ ahead f (k + 1) l) (ahead f (k + 1) l)) (suc j) ≡ slice_get (ahead f (o + 1) (k + suc l - (o + 1))) 0
 follow_step f k l zero o true ih h =
-    let s : k ≡ o = some_same k o h in
+    let s : k ≡ o = same_Some k o h in
     let e : k + suc l - (k + 1) ≡ l = omega arith in
     subst (λ (x : ℕ). slice_get (ahead f (k + 1) l) 0 ≡ slice_get (ahead f (x + 1) (k + suc l - (x + 1))) 0) s (sym (ap (λ (n : ℕ). slice_get (ahead f (k + 1) n) 0) e))
 follow_step f k l (suc j) o true ih h = ih j h
@@ -119,6 +108,3 @@ module _ {V : Type 0} (f : ℕ → Option V) (k n j : ℕ) (le : k ≤ n) where
       (λ lt. sym (sym (ahead_on f k n j lt e) ∙ nth_more (ahead f k (n - k)) j (sym h)))
       (λ ge. sym (ahead_none f (k + 1) n j (omega arith)))
       (cases_lt k n)
-
-  pub pass_below : (o : ℕ) → Some o ≡ slice_get (ahead f k (n - k)) j → o < n
-  pass_below o h = let a = ahead-number f k (n - k) j o (sym h) in omega (arith, a.below)

@@ -1,6 +1,5 @@
 -- The present rows of a stretch, counted from its last, and those of a part of it.
-use Rattle.std.proofs.Common.{◌≡◌, ℕ, zero, suc, ◌+◌, ◌-◌, ◌<◌, ◌≤◌, Bool, true, false, cond, List, [], ◌∷◌, ◌++◌, reverse, is_some, Some, Option, sym, refl, ap, ◌∙◌, arith}
-use Rattle.std.specs.List.{slice_get}
+use Rattle.std.proofs.Common.{◌≡◌, ℕ, zero, suc, ◌+◌, Bool, true, false, cond, List, [], ◌∷◌, ◌++◌, reverse, is_some, Option, sym, refl, ap, ◌∙◌, arith}
 use Rattle.std.proofs.lemmas.List.{reverse-append}
 use Rattle.present.specs.Present.{ahead}
 
@@ -39,29 +38,3 @@ pub behind_push : {V : Type 0} (f : ℕ → Option V) (k n : ℕ) → reverse (a
 behind_push f k n =
     let b = is_some (f (k + n)) in
     ap reverse (ahead_push f k n) ∙ (reverse-append (ahead f k n) (own b (k + n)) ∙ (ap (λ (xs : List ℕ). xs ++ reverse (ahead f k n)) (reverse_own b (k + n)) ∙ sym (own_then b (k + n) (reverse (ahead f k n)))))
-
--- the stretch from row s up to row r, and its last row
-behind-step : {V : Type 0} (f : ℕ → Option V) (s r j : ℕ) → s < r → slice_get (reverse (ahead f s (r - s))) j ≡ slice_get (cond (is_some (f (r - 1))) ((r - 1) ∷ reverse (ahead f s (r - 1 - s))) (reverse (ahead f s (r - 1 - s)))) j
-behind-step f s r j h =
-    let n : r - s ≡ suc (r - 1 - s) = omega arith in
-    let e : s + (r - 1 - s) ≡ r - 1 = omega arith in
-    ap (λ (x : ℕ). slice_get (reverse (ahead f s x)) j) n ∙ (ap (λ (xs : List ℕ). slice_get xs j) (behind_push f s (r - 1 - s)) ∙ ap (λ (x : ℕ). slice_get (cond (is_some (f x)) (x ∷ reverse (ahead f s (r - 1 - s))) (reverse (ahead f s (r - 1 - s)))) j) e)
-
--- a scan from the last row down that still wants the m-th present row of those below row r: found, passed over as present, or passed over as NULL
-module _ {V : Type 0} (f : ℕ → Option V) (s r m : ℕ) (x : Option ℕ) (h : s < r) (e : x ≡ slice_get (reverse (ahead f s (r - s))) (m - 1)) where
-  abbrev rest : List ℕ
-  rest = reverse (ahead f s (r - 1 - s))
-
-  pub down_found : is_some (f (r - 1)) ≡ true → m ≤ 1 → Some (r - 1) ≡ x
-  down_found n l =
-      let z : m - 1 ≡ 0 = omega arith in
-      sym (e ∙ (ap (slice_get (reverse (ahead f s (r - s)))) z ∙ (behind-step f s r 0 h ∙ ap (λ (b : Bool). slice_get (cond b ((r - 1) ∷ rest) rest) 0) n)))
-
-  pub down_on : (m' : ℕ) → is_some (f (r - 1)) ≡ true → 1 < m → m' ≡ m - 1 → x ≡ slice_get rest (m' - 1)
-  down_on m' n l q =
-      let z : m - 1 ≡ suc (m' - 1) = omega arith in
-      e ∙ (ap (slice_get (reverse (ahead f s (r - s)))) z ∙ (behind-step f s r (suc (m' - 1)) h ∙ ap (λ (b : Bool). slice_get (cond b ((r - 1) ∷ rest) rest) (suc (m' - 1))) n))
-
-  pub down_past : (m' : ℕ) → is_some (f (r - 1)) ≡ false → m' ≡ m → x ≡ slice_get rest (m' - 1)
-  down_past m' n q =
-      e ∙ (behind-step f s r (m - 1) h ∙ (ap (λ (b : Bool). slice_get (cond b ((r - 1) ∷ rest) rest) (m - 1)) n ∙ ap (λ (y : ℕ). slice_get rest (y - 1)) (sym q)))

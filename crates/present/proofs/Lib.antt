@@ -1,5 +1,7 @@
 pub mod Counts
 pub mod Ahead
 pub mod Behind
+pub mod Chains
 pub mod Parts
+pub mod Turned
 pub mod Counting

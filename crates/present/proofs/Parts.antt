@@ -2,13 +2,23 @@
 use Rattle.std.proofs.Common.{◌≡◌, ℕ, zero, suc, ◌+◌, ◌-◌, ◌<◌, ◌≤◌, Bool, true, false, cond, ltb, leb, List, ◌∷◌, reverse, is_some, Some, None, Option, sym, refl, ap, ◌∙◌, arith}
 use Rattle.std.specs.List.{slice_get}
 use Rattle.std.proofs.lemmas.Bool.{cond-true, cond-false, le-leb, lt-leb, lt-ltb, le-ltb}
-use Rattle.present.specs.Present.{before, ahead, from_on, up_to}
+use Rattle.present.specs.Present.{before, ahead}
 use Rattle.present.proofs.Counts.{number_of}
 use Rattle.present.proofs.Ahead.{ahead-number}
 use Rattle.present.proofs.Behind.{behind_push}
 
+-- a row found, if it lies at or after row s
+abbrev pub from_on : ℕ → Option ℕ → Option ℕ
+from_on s None = None
+from_on s (Some r) = cond (leb s r) (Some r) None
+
+-- a row found, if it lies before row e
+abbrev pub up_to : ℕ → Option ℕ → Option ℕ
+up_to e None = None
+up_to e (Some r) = cond (ltb r e) (Some r) None
+
 -- of the present rows before row e, those from row s on
-cut : (s : ℕ) (o : Option ℕ) → ((r : ℕ) → o ≡ Some r → r < s) → None ≡ from_on s o
+pub cut : (s : ℕ) (o : Option ℕ) → ((r : ℕ) → o ≡ Some r → r < s) → None ≡ from_on s o
 cut s None h = refl
 cut s (Some r) h = sym (cond-false (leb s r) (Some r) None (lt-leb s r (h r refl)))
 

@@ -1,5 +1,5 @@
 -- Which rows have a present cell; cells are a function of the row, NULL past the end.
-use Rattle.std.specs.Prelude.{ℕ, zero, suc, ◌+◌, ◌-◌, cond, List, [], ◌∷◌, length, is_some, Some, None, Option, nat_le, nat_lt, slice_index_or}
+use Rattle.std.specs.Prelude.{ℕ, zero, suc, ◌+◌, ◌-◌, cond, List, [], ◌∷◌, length, is_some, None, Option, slice_index_or}
 
 -- the cell of a row
 abbrev pub at : {V : Type 0} → List (Option V) → ℕ → Option V
@@ -18,13 +18,3 @@ ahead cell k (suc n) = cond (is_some (cell k)) (k ∷ ahead cell (k + 1) n) (ahe
 -- the present rows after row i, nearest first
 abbrev pub after : {V : Type 0} → List (Option V) → ℕ → List ℕ
 after rows i = ahead (at rows) (i + 1) (length rows - (i + 1))
-
--- a row found, if it lies at or after row s
-abbrev pub from_on : ℕ → Option ℕ → Option ℕ
-from_on s None = None
-from_on s (Some r) = cond (nat_le s r) (Some r) None
-
--- a row found, if it lies before row e
-abbrev pub up_to : ℕ → Option ℕ → Option ℕ
-up_to e None = None
-up_to e (Some r) = cond (nat_lt r e) (Some r) None

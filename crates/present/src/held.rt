@@ -3,9 +3,9 @@
 ghost use Rattle.std.specs.Prelude.{◌≡◌, ◌<◌};
 ghost use Rattle.column.specs.Cells.{view};
 ghost use Rattle.column.specs.Refusal.{row_limit};
-ghost use Rattle.present.specs.Counting.{next_present, counted, passed, counted_row, oldest_source};
+ghost use Rattle.present.specs.Counting.{counted, passed, counted_row, oldest_source};
 
-use crate::scan::present_ahead;
+use crate::scan::present_after;
 use column::column::Window;
 use column::kind::Kind;
 
@@ -32,21 +32,9 @@ impl Held {
     {
         Held {
             next: self.next.max(next + 1),
-            count: self.count,
-            oldest: self.oldest,
+            ..self
         }
     }
-}
-
-// The first present row after `row`, up to row `last`; `row` if there is none.
-fn present_after<K: Kind>(window: &Window<'_, K>, row: usize, last: usize) -> usize
-    requires { last < row_limit }
-    ensures { result ≡ next_present (view window.now) row last }
-{
-    if row >= last {
-        return row;
-    }
-    present_ahead(window, row + 1, last + 1, 1).unwrap_or(row)
 }
 
 // Counts the present row `next`: as one more, or in place of the oldest.
@@ -54,19 +42,18 @@ fn count_present<K: Kind>(m: usize, held: Held, window: &Window<'_, K>, next: us
     requires { next < row_limit }
     ensures { result ≡ counted m held (view window.now) next }
 {
-    let after = held.next.max(next + 1);
+    let after = held.passed(next);
     if held.count < m {
         let oldest = if held.count == 0 { next } else { held.oldest };
         return Held {
-            next: after,
             count: held.count + 1,
             oldest,
+            ..after
         };
     }
     Held {
-        next: after,
-        count: held.count,
-        oldest: present_after(window, held.oldest, next),
+        oldest: present_after(window, held.oldest, next + 1).unwrap_or(held.oldest),
+        ..after
     }
 }
 
@@ -85,9 +72,5 @@ pub fn count_row<K: Kind>(m: usize, held: Held, window: &Window<'_, K>, next: us
 pub fn oldest_source(m: usize, held: Held) -> Option<usize>
     ensures { result ≡ oldest_source m held }
 {
-    if held.count >= m {
-        Some(held.oldest)
-    } else {
-        None
-    }
+    (held.count >= m).then_some(held.oldest)
 }

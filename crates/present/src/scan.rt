@@ -16,16 +16,8 @@ pub fn present_ahead<K: Kind>(
 ) -> Option<usize>
     ensures { result ≡ slice_get (ahead (view window.now) from (end - from)) (m - 1) }
 {
-    let mut left = m;
-    for row in from..end {
-        if window.cell(row).is_some() {
-            if left <= 1 {
-                return Some(row);
-            }
-            left -= 1;
-        }
-    }
-    None
+    let present = |row: &usize| window.cell(*row).is_some();
+    (from..end).filter(present).nth(m.saturating_sub(1))
 }
 
 // The m-th present row of those from `from` up to `end`, not included, counted from the last.
@@ -37,16 +29,19 @@ pub fn present_behind<K: Kind>(
 ) -> Option<usize>
     ensures { result ≡ slice_get (reverse (ahead (view window.now) from (end - from))) (m - 1) }
 {
-    let mut left = m;
-    for row in (from..end).rev() {
-        if window.cell(row).is_some() {
-            if left <= 1 {
-                return Some(row);
-            }
-            left -= 1;
-        }
-    }
-    None
+    let present = |row: &usize| window.cell(*row).is_some();
+    (from..end).rev().filter(present).nth(m.saturating_sub(1))
+}
+
+// The first present row after `row`, below `end`.
+pub(crate) fn present_after<K: Kind>(
+    window: &Window<'_, K>,
+    row: usize,
+    end: usize,
+) -> Option<usize>
+    ensures { result ≡ slice_get (ahead (view window.now) (row + 1) (end - (row + 1))) 0 }
+{
+    present_ahead(window, row.saturating_add(1), end, 1)
 }
 
 // The present row of a number among those from `row` on becomes the one of that number from the next row on.
@@ -62,14 +57,5 @@ pub fn pass_ahead<K: Kind>(
     if window.cell(row).is_none() {
         return source;
     }
-    match source {
-        Some(found) => {
-            if found < n {
-                present_ahead(window, found + 1, n, 1)
-            } else {
-                None
-            }
-        }
-        None => None,
-    }
+    present_after(window, source?, n)
 }

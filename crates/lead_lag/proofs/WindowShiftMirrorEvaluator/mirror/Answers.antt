@@ -9,7 +9,7 @@ use Rattle.evaluator.proofs.Opposites.{opposite_twice}
 use Rattle.lead_lag.specs.Offset.{way_of}
 use Rattle.lead_lag.specs.Shift.{shift_meaning, shift_mirrored, shift_renewed, shifted}
 use Rattle.present.specs.Counting.{start}
-use Rattle.lead_lag.specs.Holds.{fresh_holds}
+use Rattle.lead_lag.proofs.Holds.{fresh_holds}
 use Rattle.lead_lag.proofs.Turned.{shifted-turned}
 use Rattle.lead_lag.proofs.WindowShiftMirrorEvaluator.mirror.Goals as goal
 

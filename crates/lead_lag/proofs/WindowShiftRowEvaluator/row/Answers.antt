@@ -1,13 +1,16 @@
-use Rattle.lead_lag.specs.Shift.{shift_meaning}
 use Rattle.run.proofs.Unframed.{handed_turn, turn_call}
-use Rattle.lead_lag.proofs.Calls.{turn_leaves}
+use Rattle.lead_lag.specs.Shift.{shift_meaning}
+use Rattle.lead_lag.proofs.Calls.{early_by, answers_by}
 use Rattle.lead_lag.proofs.WindowShiftRowEvaluator.row.Goals as goal
 
-pub answer_row-requires : goal.answer_row-requires
-answer_row-requires g c = handed_turn _ _ _ _ _ _ _ c.window.ensures c.known.ensures c.requires
+pub returns-then-must_wait-clause-call : goal.returns-then-must_wait-clause-call
+returns-then-must_wait-clause-call g c =
+    let t = c.args.turn.now in
+    let h = handed_turn _ _ _ _ t.frame _ _ c.window-window.ensures c.known.ensures c.requires in
+    turn_call shift_meaning _ _ _ _ _ _ _ _ _ _ _ c.next-next.ensures c.window-window.ensures c.known.ensures (early_by c.args.self.now c.next-next.result c.window-window.result t.frame c.known.result h c.if-next-end.false c.look-look.result c.look-look.ensures c.source-source.result c.source-source.ensures c.must_wait.result c.must_wait.ensures c.if-must_wait.true)
 
-pub returns : goal.returns
-returns g c = record {
-  call = turn_call shift_meaning _ _ _ _ _ _ _ _ _ _ _ c.next.ensures c.window.ensures c.known.ensures c.answer_row.ensures.call;
-  leaves = turn_leaves _ _ _ _ _ _ (0, 0) (0, 0) c.answer_row.result c.next.ensures c.window.ensures c.answer_row.ensures.leaves;
-}
+pub returns-clause-call : goal.returns-clause-call
+returns-clause-call g c =
+    let t = c.args.turn.now in
+    let h = handed_turn _ _ _ _ t.frame _ _ c.window-window.ensures c.known.ensures c.requires in
+    turn_call shift_meaning _ _ _ _ _ _ _ _ _ _ _ c.next-next.ensures c.window-window.ensures c.known.ensures (answers_by c.args.self.now c.next-next.result c.window-window.result t.frame c.known.result h c.if-next-end.false c.look-look.result c.look-look.ensures c.source-source.result c.source-source.ensures c.must_wait.result c.must_wait.ensures c.if-must_wait.false c.take_cell-answer.result c.take_cell-answer.ensures c.step-self.result c.step-self.ensures)

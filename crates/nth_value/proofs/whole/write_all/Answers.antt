@@ -15,11 +15,8 @@ loop-i-init g c =
     let o = g.O.Output in
     let col = c.args.column.now in
     let long = length-cells col.values.now col.marks.now c.requires.lengths in
-    let k = c.cursor_of-cursor.ensures (column_cells col) (view-all col) (sym long) in
+    let k = c.new-cursor.ensures (column_cells col) (view-all col) (sym long) in
     (none_written o.slots o.stored o.size o.place o.laws _ _ _ c.requires.room, k.0, λ f. refl)
-
-pub put-requires : goal.put-requires
-put-requires g c = omega (arith, c.loop-i.invariant.0.room, c.requires.framed, c.loop-i-test.true)
 
 pub loop-i-preserved : goal.loop-i-preserved
 loop-i-preserved g c =
@@ -28,21 +25,18 @@ loop-i-preserved g c =
     let rows = column_cells col in
     let long = length-cells col.values.now col.marks.now c.requires.lengths in
     let f = get_or c.args.frames.now c.loop-i.i (0, 0) in
-    let k = c.find-next.ensures rows (view-all col) (sym long) c.loop-i.invariant.1 in (
-      one_more o.slots o.stored o.size o.place o.laws _ _ _ _ _ _ _ c.loop-i.invariant.0 c.put.ensures.slots c.put.ensures.place (found_cell col c.find-next.result.1 (finds c.cursor_of-cursor.result rows f) c.cell_of.result (k.1 ∙ c.loop-i.invariant.2 f) c.cell_of.ensures),
+    let k = c.find-row.ensures rows (view-all col) (sym long) c.loop-i.invariant.1 in (
+      one_more o.slots o.stored o.size o.place o.laws _ _ _ _ _ _ _ c.loop-i.invariant.0 c.put.ensures.slots c.put.ensures.place (found_cell col c.find-row.result (finds c.new-cursor.result rows f) c.cell_of.result (k.1 ∙ c.loop-i.invariant.2 f) c.cell_of.ensures),
       k.0,
       λ g. k.2 g ∙ c.loop-i.invariant.2 g,
     )
 
-pub returns : goal.returns
-returns g c =
+pub returns-clause-slots : goal.returns-clause-slots
+returns-clause-slots g c =
     let o = g.O.Output in
     let col = c.args.column.now in
     let rows = column_cells col in
     let long = length-cells col.values.now col.marks.now c.requires.lengths in
-    let k = c.cursor_of-cursor.ensures rows (view-all col) (sym long) in
+    let k = c.new-cursor.ensures rows (view-all col) (sym long) in
     let all : c.loop-i.i ≡ length col.values.now = omega (arith, c.loop-i-test.false, c.loop-i.auto.i-end, c.requires.framed) in
-    record {
-      slots = c.loop-i.invariant.0.holds ∙ (ap (λ (n : ℕ). written o.stored (λ i. cell_of (at rows) (finds c.cursor_of-cursor.result rows (get_or c.args.frames.now i (0, 0)))) (o.slots c.args.out.now) n) all ∙ written_same o.stored (λ i. cell_of (at rows) (finds c.cursor_of-cursor.result rows (get_or c.args.frames.now i (0, 0)))) (frame_answers c.args.pick c.args.ignore_nulls rows c.args.frames.now) (o.slots c.args.out.now) (length col.values.now) (λ i l. ap (cell_of (at rows)) (k.1 (get_or c.args.frames.now i (0, 0)))));
-      place = c.loop-i.invariant.0.stays;
-    }
+    c.loop-i.invariant.0.holds ∙ (ap (λ (n : ℕ). written o.stored (λ i. cell_of (at rows) (finds c.new-cursor.result rows (get_or c.args.frames.now i (0, 0)))) (o.slots c.args.out.now) n) all ∙ written_same o.stored (λ i. cell_of (at rows) (finds c.new-cursor.result rows (get_or c.args.frames.now i (0, 0)))) (frame_answers c.args.seek.pick c.args.seek.ignore_nulls rows c.args.frames.now) (o.slots c.args.out.now) (length col.values.now) (λ i l. ap (cell_of (at rows)) (k.1 (get_or c.args.frames.now i (0, 0)))))

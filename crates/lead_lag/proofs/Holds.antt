@@ -1,5 +1,5 @@
 -- What is held, one row on.
-use Rattle.std.specs.Prelude.{◌≡◌, ℕ, zero, suc, ◌+◌, ◌<◌, ◌≤◌, Bool, true, false, List, ℤ, pos, negsuc, Option, refl}
+use Rattle.std.specs.Prelude.{◌≡◌, ℕ, ◌+◌, ◌<◌, ◌≤◌, Bool, true, false, List, Option, refl}
 use Rattle.std.proofs.Common.{arith}
 use Rattle.std.proofs.lemmas.Bool.Decides.{nat_tests}
 use Rattle.present.specs.declared.held.Held.{Held}
@@ -8,15 +8,8 @@ use Rattle.lead_lag.specs.declared.offset.Way.TheVariants.{Own, Back, Ahead}
 use Rattle.present.specs.Present.{at}
 use Rattle.present.specs.Counting.{start, Counting, counted_row}
 use Rattle.present.proofs.Counting.{start_counts, counted-mark, mark_low, counts_next, after_next, mark_grows}
-use Rattle.lead_lag.specs.Offset.{way_of}
 use Rattle.lead_lag.specs.Shift.{Proper, mark_of, Holding}
 use Rattle.lead_lag.specs.Steps.{held_after}
-
--- the way of an offset is proper
-pub way_proper : (z : ℤ) → Proper (way_of z)
-way_proper (pos zero) = tt
-way_proper (pos (suc n)) = omega arith
-way_proper (negsuc n) = omega arith
 
 -- nothing is held at row 0
 pub fresh_holds : {V : Type 0} (way : Way) (ignoring : Bool) (rows : List (Option V)) → Holding way ignoring start rows 0
