@@ -34,15 +34,6 @@ impl<'a, K> Window<'a, K> {
     }
 }
 
-// The window that shows all of a column.
-impl<'a, K> From<Column<'a, K>> for Window<'a, K> {
-    ghost from_gives = { λ c w. w ≡ record { begin = 0; rows = c } };
-
-    fn from(rows: Column<'a, K>) -> Window<'a, K> {
-        Window { begin: 0, rows }
-    }
-}
-
 // The mark of a row; past the end false.
 fn is_marked(marks: &[bool], row: usize) -> bool
     ensures { result ≡ slice_index_or marks.now row false }

@@ -28,10 +28,6 @@ use partition::whole::{WholePartition, check_whole};
 use present::held::Held;
 use run::rows::{RowEvaluator, Turn};
 
-const FRAMES: bool = false;
-
-const GROUPS: bool = false;
-
 // LAG and LEAD: a positive offset looks back, a negative one ahead.
 #[derive(Drop)]
 pub struct WindowShift<K> {
@@ -97,27 +93,19 @@ impl<K: Kind> Evaluator for WindowShift<K> {
 
     type Answer = Option<K>;
 
-    const WANTS_FRAMES: bool = FRAMES;
+    const WANTS_FRAMES: bool = false;
 
-    const WANTS_GROUPS: bool = GROUPS;
+    const WANTS_GROUPS: bool = false;
 
-    ghost frames = { false };
+    ghost WANTS_FRAMES = { false };
 
-    ghost groups = { false };
+    ghost WANTS_GROUPS = { false };
 
     ghost meaning = { shift_meaning };
 
     ghost renewed = { shift_renewed };
 
     ghost lawful = { λ e. shift_lawful e };
-
-    fn frames_wanted() -> bool {
-        FRAMES
-    }
-
-    fn groups_wanted() -> bool {
-        GROUPS
-    }
 
     fn fresh(&self) -> WindowShift<K> {
         self.renewed(self.shift_offset)
@@ -129,7 +117,7 @@ impl<K: Kind> Evaluator for WindowShift<K> {
         rows: &WholePartition<'_, K>,
         out: &mut O,
     ) -> Result<(), Fault> {
-        check_whole(rows, FRAMES, GROUPS, out.len())?;
+        check_whole(rows, Self::WANTS_FRAMES, Self::WANTS_GROUPS, out.len())?;
         write_all(self.look(), self.default_value, &rows.column, out);
         Ok(())
     }
@@ -143,7 +131,7 @@ impl<K: Kind> RowEvaluator for WindowShift<K> {
     fn row(&mut self, turn: &Turn<'_, K>) -> Result<Option<K>, Fault> {
         let next = turn.next();
         let window = turn.window();
-        let end = window.begin + window.rows.values.len();
+        let end = turn.end();
         if next >= end {
             return Err(Fault::TooEarly(next));
         }

@@ -32,10 +32,6 @@ use evaluator::utils::{Argument, get_signed_integer};
 use partition::whole::{WholePartition, check_whole};
 use run::rows::{RowEvaluator, Turn};
 
-const FRAMES: bool = true;
-
-const GROUPS: bool = false;
-
 // FIRST_VALUE, LAST_VALUE and NTH_VALUE over a row's frame.
 #[derive(Drop)]
 pub struct NthValue<K> {
@@ -121,27 +117,19 @@ impl<K: Kind> Evaluator for NthValue<K> {
 
     type Answer = Option<K>;
 
-    const WANTS_FRAMES: bool = FRAMES;
+    const WANTS_FRAMES: bool = true;
 
-    const WANTS_GROUPS: bool = GROUPS;
+    const WANTS_GROUPS: bool = false;
 
-    ghost frames = { true };
+    ghost WANTS_FRAMES = { true };
 
-    ghost groups = { false };
+    ghost WANTS_GROUPS = { false };
 
     ghost meaning = { nth_meaning };
 
     ghost renewed = { nth_renewed };
 
     ghost lawful = { λ e. nth_lawful e };
-
-    fn frames_wanted() -> bool {
-        FRAMES
-    }
-
-    fn groups_wanted() -> bool {
-        GROUPS
-    }
 
     fn fresh(&self) -> NthValue<K> {
         NthValue::new(self.kind, self.ignore_nulls)
@@ -153,8 +141,8 @@ impl<K: Kind> Evaluator for NthValue<K> {
         rows: &WholePartition<'_, K>,
         out: &mut O,
     ) -> Result<(), Fault> {
-        check_whole(rows, FRAMES, GROUPS, out.len())?;
-        write_all(self.seek(), &rows.column, rows.frames.list, out);
+        check_whole(rows, Self::WANTS_FRAMES, Self::WANTS_GROUPS, out.len())?;
+        write_all(self.seek(), &rows.column, rows.frames, out);
         Ok(())
     }
 }
@@ -168,8 +156,7 @@ impl<K: Kind> RowEvaluator for NthValue<K> {
         let next = turn.next();
         let window = turn.window();
         let frame = turn.frame();
-        let end = window.begin + window.rows.values.len();
-        if !is_settled(next, frame.1, end, turn.known()) {
+        if !is_settled(next, frame.1, turn.end(), turn.known()) {
             return Err(Fault::TooEarly(next));
         }
         let answer = self.answer(&window, frame);
