@@ -1,4 +1,4 @@
-use column::column::{Column, Window};
+use column::column::Window;
 use column::fault::Fault;
 use column::kind::Instant;
 use evaluator::utils::Argument;
@@ -24,22 +24,13 @@ fn ignoring(kind: WindowShiftKind) -> Result<WindowShift<Instant>, Fault> {
     WindowShift::new(kind, Argument::Missing, false, true, Some(Instant(0)))
 }
 
-// Rows `begin` to `end` of the column.
-fn rows<'a>(values: &'a [Instant], marks: &'a [bool], begin: usize) -> Window<'a, Instant> {
-    let column = Column { values, marks };
-    Window {
-        begin,
-        rows: column,
-    }
-}
-
 // LEAD 1: row 0 is too early at two rows, and settled by three.
 #[test]
 fn ahead(rt: HostRuntime) -> Result<(), Fail> {
     let mut run = Open::new(&ignoring(WindowShiftKind::Lead)?, false);
-    let two = rows(&VALUES[0..2], &MARKS[0..2], 0);
+    let two = Window::new(0, &VALUES[0..2], &MARKS[0..2]);
     assert_eq!(rt; run.request(&two, None), Err(Fault::TooEarly(0)));
-    let three = rows(&VALUES[0..3], &MARKS[0..3], 0);
+    let three = Window::new(0, &VALUES[0..3], &MARKS[0..3]);
     assert_eq!(rt; run.request(&three, None), Ok(Some(Instant(7))));
     assert_eq!(rt; run.request(&three, None), Ok(Some(Instant(7))));
     assert_eq!(rt; run.keep_mark(), 2);
@@ -52,14 +43,14 @@ fn ahead(rt: HostRuntime) -> Result<(), Fail> {
 #[test]
 fn back(rt: HostRuntime) -> Result<(), Fail> {
     let mut run = Open::new(&ignoring(WindowShiftKind::Lag)?, true);
-    let first = rows(&VALUES[0..2], &MARKS[0..2], 0);
+    let first = Window::new(0, &VALUES[0..2], &MARKS[0..2]);
     assert_eq!(rt; run.request(&first, None), Ok(Some(Instant(0))));
     assert_eq!(rt; run.request(&first, None), Ok(Some(Instant(5))));
     assert_eq!(rt; run.settle(), Ok(()));
     assert_eq!(rt; run.keep_mark(), 0);
-    let late = rows(&VALUES[2..4], &MARKS[2..4], 2);
+    let late = Window::new(2, &VALUES[2..4], &MARKS[2..4]);
     assert_eq!(rt; run.request(&late, None), Err(Fault::BeginsLate(0)));
-    let next = rows(&VALUES[0..4], &MARKS[0..4], 0);
+    let next = Window::new(0, &VALUES[0..4], &MARKS[0..4]);
     assert_eq!(rt; run.request(&next, None), Ok(Some(Instant(5))));
     assert_eq!(rt; run.keep_mark(), 2);
     assert_eq!(rt; run.request(&late, None), Ok(Some(Instant(7))));
@@ -70,8 +61,8 @@ fn back(rt: HostRuntime) -> Result<(), Fail> {
 #[test]
 fn closed(rt: HostRuntime) -> Result<(), Fail> {
     let mut run = Open::new(&ignoring(WindowShiftKind::Lead)?, false);
-    let one = rows(&VALUES[0..1], &MARKS[0..1], 0);
-    let three = rows(&VALUES[0..3], &MARKS[0..3], 0);
+    let one = Window::new(0, &VALUES[0..1], &MARKS[0..1]);
+    let three = Window::new(0, &VALUES[0..3], &MARKS[0..3]);
     assert_eq!(rt; run.request(&three, None), Ok(Some(Instant(7))));
     let Err((fault, run)) = run.close(0) else {
         return Err(Fail::new("a total below the next row"));
@@ -82,7 +73,7 @@ fn closed(rt: HostRuntime) -> Result<(), Fail> {
     };
     assert_eq!(rt; run.request(&three, None), Err(Fault::PastTotal(2)));
     assert_eq!(rt; run.request(&one, None), Err(Fault::TooEarly(1)));
-    let two = rows(&VALUES[0..2], &MARKS[0..2], 0);
+    let two = Window::new(0, &VALUES[0..2], &MARKS[0..2]);
     assert_eq!(rt; run.request(&two, None), Ok(Some(Instant(0))));
     assert_eq!(rt; run.request(&two, None), Err(Fault::NoRowLeft(2)));
     match run.finish() {

@@ -1,4 +1,4 @@
-use column::column::{Column, Window};
+use column::column::Window;
 use column::fault::Fault;
 use column::kind::Instant;
 use evaluator::utils::Argument;
@@ -7,26 +7,18 @@ use run::rows::RowEvaluator;
 use run::run::Open;
 use std::test::Fail;
 
-fn rows<'a>(values: &'a [Instant], marks: &'a [bool], begin: usize) -> Window<'a, Instant> {
-    let column = Column { values, marks };
-    Window {
-        begin,
-        rows: column,
-    }
-}
-
 const VALUES: [Instant; 4] = [Instant(5), Instant(6), Instant(7), Instant(8)];
 
 // FIRST over frames from the first row: settled, its answer is fixed and the rows before the last frame's last row may go.
 #[test]
 fn first_settled(rt: HostRuntime) {
     let mut run = Open::new(&NthValue::first(false), true);
-    let all = rows(&VALUES[0..3], &[true; 3], 0);
+    let all = Window::new(0, &VALUES[0..3], &[true; 3]);
     assert_eq!(rt; run.request(&all, Some((0, 3))), Ok(Some(Instant(5))));
     assert_eq!(rt; run.keep_mark(), 0);
     assert_eq!(rt; run.settle(), Ok(()));
     assert_eq!(rt; run.keep_mark(), 2);
-    let late = rows(&VALUES[2..4], &[true; 2], 2);
+    let late = Window::new(2, &VALUES[2..4], &[true; 2]);
     assert_eq!(rt; run.request(&late, Some((0, 4))), Ok(Some(Instant(5))));
     assert_eq!(rt; run.request(&late, Some((1, 4))), Err(Fault::BadFrame(2)));
 }
@@ -35,18 +27,18 @@ fn first_settled(rt: HostRuntime) {
 #[test]
 fn null_not_fixed(rt: HostRuntime) {
     let mut run = Open::new(&NthValue::first(true), true);
-    let nulls = rows(&VALUES[0..2], &[false; 2], 0);
+    let nulls = Window::new(0, &VALUES[0..2], &[false; 2]);
     assert_eq!(rt; run.request(&nulls, Some((0, 2))), Ok(None));
     assert_eq!(rt; run.settle(), Ok(()));
     assert_eq!(rt; run.keep_mark(), 1);
-    let more = rows(&VALUES[1..3], &[false, true], 1);
+    let more = Window::new(1, &VALUES[1..3], &[false, true]);
     assert_eq!(rt; run.request(&more, Some((0, 3))), Ok(Some(Instant(7))));
 }
 
 // LAST holds one row, NTH −2 two; NTH 2 is fixed once more than two answers were given.
 #[test]
 fn others_settled(rt: HostRuntime) -> Result<(), Fail> {
-    let all = rows(&VALUES, &[true; 4], 0);
+    let all = Window::new(0, &VALUES, &[true; 4]);
     let mut last = Open::new(&NthValue::last(false), true);
     assert_eq!(rt; last.request(&all, Some((0, 3))), Ok(Some(Instant(7))));
     assert_eq!(rt; last.settle(), Ok(()));
@@ -73,9 +65,9 @@ fn others_settled(rt: HostRuntime) -> Result<(), Fail> {
 #[test]
 fn early_and_ahead(rt: HostRuntime) {
     let mut run = Open::new(&NthValue::last(true), false);
-    let two = rows(&VALUES[0..2], &[true; 2], 0);
+    let two = Window::new(0, &VALUES[0..2], &[true; 2]);
     assert_eq!(rt; run.request(&two, Some((1, 3))), Err(Fault::TooEarly(0)));
-    let all = rows(&VALUES, &[true; 4], 0);
+    let all = Window::new(0, &VALUES, &[true; 4]);
     assert_eq!(rt; run.request(&all, Some((2, 4))), Ok(Some(Instant(8))));
     assert_eq!(rt; run.keep_mark(), 2);
     assert_eq!(rt; run.request(&all, None), Err(Fault::NoFrame(1)));

@@ -1,16 +1,11 @@
 use crate::ranks::KEYS;
-use column::column::{Column, Window};
+use column::column::Window;
 use column::fault::Fault;
 use column::kind::Instant;
 use rank::rank::{Rank, RankType};
 use rank::row_number::RowNumber;
 use run::rows::RowEvaluator;
 use run::run::Open;
-
-fn rows<'a>(values: &'a [Instant], marks: &'a [bool], begin: usize) -> Window<'a, Instant> {
-    let rows = Column { values, marks };
-    Window { begin, rows }
-}
 
 // The answers of a run whose every window holds one row.
 fn one_by_one<E: RowEvaluator<Value = Instant, Answer = u64> + Drop>(
@@ -20,7 +15,7 @@ fn one_by_one<E: RowEvaluator<Value = Instant, Answer = u64> + Drop>(
     let mut run = Open::new(evaluator, false);
     let mut answers = [0; 6];
     for ((answer, key), mark) in answers.iter_mut().zip(KEYS.chunks(1)).zip(marks.chunks(1)) {
-        *answer = run.request(&rows(key, mark, run.keep_mark()), None)?;
+        *answer = run.request(&Window::new(run.keep_mark(), key, mark), None)?;
     }
     Ok(answers)
 }
@@ -51,14 +46,14 @@ fn null_keys(rt: HostRuntime) {
 fn refused(rt: HostRuntime) {
     let mut run = Open::new(&Rank::new(RankType::Basic), true);
     assert_eq!(rt;
-        run.request(&rows(&[], &[], 0), None),
+        run.request(&Window::new(0, &[], &[]), None),
         Err(Fault::TooEarly(0))
     );
-    let two = rows(&KEYS[0..2], &[true; 2], 0);
+    let two = Window::new(0, &KEYS[0..2], &[true; 2]);
     assert_eq!(rt; run.request(&two, None), Ok(1));
     assert_eq!(rt; run.keep_mark(), 1);
     assert_eq!(rt; run.settle(), Ok(()));
-    let late = rows(&KEYS[2..3], &[true; 1], 2);
+    let late = Window::new(2, &KEYS[2..3], &[true; 1]);
     assert_eq!(rt; run.request(&late, None), Err(Fault::BeginsLate(1)));
     assert_eq!(rt; run.request(&two, None), Ok(1));
     assert_eq!(rt; run.request(&two, None), Err(Fault::TooEarly(2)));
