@@ -1,2 +1,3 @@
 pub mod Cursors
+pub mod Kinds
 pub mod Texts

@@ -1,37 +1,19 @@
 // The steps of a cursor: none goes backward.
-ghost use Rattle.std.specs.Prelude.{◌≡◌, ◌+◌, ◌-◌, ◌≤◌, T, length, IfOk, if◌then◌else◌, Ok, MatchOption, OnOk, nat_le, slice_index, slice_range};
+ghost use Rattle.std.specs.Prelude.{◌≡◌, ◌+◌, ◌-◌, ◌≤◌, T, length, IfOk, if◌then◌else◌, Ok, OnOk, nat_le, slice_get, slice_index, slice_range};
+ghost use Rattle.std.specs.Str.{IsCharBoundary};
 ghost use Rattle.lines.specs.Cursors.{Onward};
 
 use crate::cursor::Cursor;
 use crate::stop::Bad;
 use std::str::FromStr;
 
-// What a byte of a word may be.
-#[derive(Clone, Copy)]
-enum Class {
-    Digit,
-    Letter,
-    NotBlank,
-}
-
-fn belongs(class: Class, byte: u8) -> bool {
-    match class {
-        Class::Digit => byte.is_ascii_digit(),
-        Class::Letter => byte.is_ascii_lowercase(),
-        Class::NotBlank => byte != b' ',
-    }
-}
-
-// The end of the bytes of a class that begin at a place.
-fn run_end(text: &[u8], from: usize, class: Class) -> usize
-    requires { from ≤ length text.now }
+// The end of the run of bytes that pass a test, from a place on.
+fn run_end<F: Fn(u8) -> bool>(text: &[u8], from: usize, passes: F) -> usize
+    requires within { from ≤ length text.now }
+    requires callable { F.IsAlwaysCallable passes }
     ensures { (from ≤ result) × (result ≤ length text.now) }
 {
-    let mut end = from;
-    while end < text.len() && belongs(class, text[end]) {
-        end += 1;
-    }
-    end
+    from + text[from..].iter().take_while(|b| passes(**b)).count()
 }
 
 // The end of the number that begins at a place: a minus sign, then digits.
@@ -39,10 +21,12 @@ fn number_end(text: &[u8], from: usize) -> usize
     requires { from ≤ length text.now }
     ensures { (from ≤ result) × (result ≤ length text.now) }
 {
-    if from < text.len() && text[from] == b'-' {
-        return run_end(text, from + 1, Class::Digit);
-    }
-    run_end(text, from, Class::Digit)
+    let digits = if text.get(from) == Some(&b'-') {
+        from + 1
+    } else {
+        from
+    };
+    run_end(text, digits, |b| b.is_ascii_digit())
 }
 
 impl<'a> Cursor<'a> {
@@ -77,7 +61,7 @@ impl<'a> Cursor<'a> {
 
     // The next byte.
     pub fn peek(&self) -> Option<u8>
-        ensures { MatchOption result (length self.now.text.now ≤ self.now.at) (λ b. b ≡ slice_index self.now.text.now self.now.at) }
+        ensures { result ≡ slice_get self.now.text.now self.now.at }
     {
         self.text.as_bytes().get(self.at).copied()
     }
@@ -88,8 +72,7 @@ impl<'a> Cursor<'a> {
         ensures found { T result → slice_index self.old.text.now self.old.at ≡ byte }
         ensures onward { Onward self.old self.new }
     {
-        let text = self.text.as_bytes();
-        if self.at < text.len() && text[self.at] == byte {
+        if self.peek() == Some(byte) {
             self.at += 1;
             return true;
         }
@@ -114,36 +97,39 @@ impl<'a> Cursor<'a> {
         ensures reads { IfOk result (λ n. N.FromStr.from_str_gives (slice_range self.old.text.now self.old.at self.new.at) (Ok n)) }
         ensures onward { Onward self.old self.new }
     {
-        let text = self.text;
-        let end = number_end(text.as_bytes(), self.at);
-        let Some(digits) = text.get(self.at..end) else {
-            return Err(self.bad());
-        };
-        let Ok(n) = digits.parse::<N>() else {
-            return Err(self.bad());
-        };
+        let start = self.bad();
+        let end = number_end(self.text.as_bytes(), self.at);
+        let digits = self.text.get(self.at..end).ok_or(start)?;
+        let n = digits.parse::<N>().map_err(|_| start)?;
         self.at = end;
         Ok(n)
     }
 
+    // The text up to the first byte that fails a test.
+    fn run<F: Fn(u8) -> bool>(&mut self, passes: F) -> &'a str
+        requires { F.IsAlwaysCallable passes }
+        ensures text { IsCharBoundary self.old.text.now self.old.at → IsCharBoundary self.old.text.now self.new.at → result.now ≡ slice_range self.old.text.now self.old.at self.new.at }
+        ensures onward { Onward self.old self.new }
+    {
+        let from = self.at;
+        self.at = run_end(self.text.as_bytes(), from, passes);
+        self.since(from)
+    }
+
     // A word of small letters.
     pub fn word(&mut self) -> &'a str
-        ensures { Onward self.old self.new }
+        ensures text { IsCharBoundary self.old.text.now self.old.at → IsCharBoundary self.old.text.now self.new.at → result.now ≡ slice_range self.old.text.now self.old.at self.new.at }
+        ensures onward { Onward self.old self.new }
     {
-        let text = self.text;
-        let from = self.at;
-        self.at = run_end(text.as_bytes(), from, Class::Letter);
-        text.get(from..self.at).unwrap_or("")
+        self.run(|b| b.is_ascii_lowercase())
     }
 
     // What comes before the next blank.
     pub fn field(&mut self) -> &'a str
-        ensures { Onward self.old self.new }
+        ensures text { IsCharBoundary self.old.text.now self.old.at → IsCharBoundary self.old.text.now self.new.at → result.now ≡ slice_range self.old.text.now self.old.at self.new.at }
+        ensures onward { Onward self.old self.new }
     {
-        let text = self.text;
-        let from = self.at;
-        self.at = run_end(text.as_bytes(), from, Class::NotBlank);
-        text.get(from..self.at).unwrap_or("")
+        self.run(|b| b != b' ')
     }
 
     // Whether the line ends here.
@@ -164,7 +150,9 @@ impl<'a> Cursor<'a> {
     }
 
     // What was read since a place.
-    pub fn since(&self, from: usize) -> &'a str {
+    pub fn since(&self, from: usize) -> &'a str
+        ensures { IsCharBoundary self.now.text.now from → IsCharBoundary self.now.text.now self.now.at → result.now ≡ slice_range self.now.text.now from self.now.at }
+    {
         self.text.get(from..self.at).unwrap_or("")
     }
 }

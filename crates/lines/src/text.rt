@@ -1,10 +1,11 @@
-ghost use Rattle.std.specs.Prelude.{◌≡◌, ℕ, List, IfOk, string_bytes};
+ghost use Rattle.std.specs.Prelude.{ℕ, List, Some};
+ghost use Rattle.std.specs.Fmt.{WritesOnOk};
 ghost use Rattle.lines.specs.Cursors.{Onward};
 
 use crate::cursor::Cursor;
 use crate::stop::Bad;
 use column::kind::Kind;
-use std::alloc::{AllocError, Global};
+use std::fmt;
 
 // What a word of a line stands for.
 pub trait Text: Copy {
@@ -13,8 +14,20 @@ pub trait Text: Copy {
     fn read(cursor: &mut Cursor<'_>) -> Result<Self, Bad>
         ensures { Onward cursor.old cursor.new };
 
-    fn show(&self, heap: Global) -> Result<String, AllocError>
-        ensures { IfOk result (λ s. string_bytes s ≡ text self.now) };
+    fn write<W: fmt::Write>(&self, f: &mut fmt::Formatter<W>) -> fmt::Result
+        ensures { WritesOnOk W.Write.write_str_gives f.old result (text self.now) f.new };
+}
+
+// A value, printed as lines have it.
+#[derive(Clone, Copy)]
+pub struct Shown<T>(pub T);
+
+impl<T: Text> fmt::Display for Shown<T> {
+    ghost output = { λ x. Some (T.Text.text x.0) };
+
+    fn fmt<W: fmt::Write>(&self, f: &mut fmt::Formatter<W>) -> fmt::Result {
+        self.0.write(f)
+    }
 }
 
 // A kind of value that lines can hold.

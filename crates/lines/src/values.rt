@@ -2,9 +2,9 @@ ghost use Rattle.lines.specs.Texts.{instant_text, pseudonym_text, code_text, out
 
 use crate::cursor::Cursor;
 use crate::stop::Bad;
-use crate::text::{Text, Value};
+use crate::text::{Shown, Text, Value};
 use column::kind::{CollegeCode, Instant, LoginOutcome, Pair, Pseudonym};
-use std::alloc::{AllocError, Global};
+use std::fmt;
 
 // A decimal number.
 impl Text for Instant {
@@ -14,9 +14,8 @@ impl Text for Instant {
         Ok(Instant(cursor.number::<i64>()?))
     }
 
-    fn show(&self, heap: Global) -> Result<String, AllocError> {
-        let n = self.0;
-        format!(in heap; "{n}")
+    fn write<W: fmt::Write>(&self, f: &mut fmt::Formatter<W>) -> fmt::Result {
+        write!(f, "{}", self.0)
     }
 }
 
@@ -37,10 +36,8 @@ impl Text for Pseudonym {
         Ok(Pseudonym { high, low })
     }
 
-    fn show(&self, heap: Global) -> Result<String, AllocError> {
-        let high = self.high;
-        let low = self.low;
-        format!(in heap; "{high}:{low}")
+    fn write<W: fmt::Write>(&self, f: &mut fmt::Formatter<W>) -> fmt::Result {
+        write!(f, "{}:{}", self.high, self.low)
     }
 }
 
@@ -58,9 +55,8 @@ impl Text for CollegeCode {
         Ok(CollegeCode(cursor.number::<u64>()?))
     }
 
-    fn show(&self, heap: Global) -> Result<String, AllocError> {
-        let n = self.0;
-        format!(in heap; "{n}")
+    fn write<W: fmt::Write>(&self, f: &mut fmt::Formatter<W>) -> fmt::Result {
+        write!(f, "{}", self.0)
     }
 }
 
@@ -85,11 +81,11 @@ impl Text for LoginOutcome {
         Ok(LoginOutcome::Refused(cursor.number::<u16>()?))
     }
 
-    fn show(&self, heap: Global) -> Result<String, AllocError> {
+    fn write<W: fmt::Write>(&self, f: &mut fmt::Formatter<W>) -> fmt::Result {
         match *self {
-            LoginOutcome::Granted => String::from_str(heap, "g"),
-            LoginOutcome::Refused(reason) => format!(in heap; "r{reason}"),
-            LoginOutcome::TimedOut => String::from_str(heap, "t"),
+            LoginOutcome::Granted => f.write_str("g"),
+            LoginOutcome::Refused(reason) => write!(f, "r{reason}"),
+            LoginOutcome::TimedOut => f.write_str("t"),
         }
     }
 }
@@ -113,10 +109,8 @@ impl<A: Text, B: Text> Text for Pair<A, B> {
         Ok(Pair { first, second })
     }
 
-    fn show(&self, heap: Global) -> Result<String, AllocError> {
-        let first = self.first.show(heap)?;
-        let second = self.second.show(heap)?;
-        format!(in heap; "<{first};{second}>")
+    fn write<W: fmt::Write>(&self, f: &mut fmt::Formatter<W>) -> fmt::Result {
+        write!(f, "<{};{}>", Shown(self.first), Shown(self.second))
     }
 }
 
@@ -139,10 +133,10 @@ impl<K: Text> Text for Option<K> {
         Ok(Some(K::read(cursor)?))
     }
 
-    fn show(&self, heap: Global) -> Result<String, AllocError> {
+    fn write<W: fmt::Write>(&self, f: &mut fmt::Formatter<W>) -> fmt::Result {
         match *self {
-            Some(value) => value.show(heap),
-            None => String::from_str(heap, "_"),
+            Some(value) => value.write(f),
+            None => f.write_str("_"),
         }
     }
 }
@@ -159,8 +153,8 @@ impl Text for bool {
         Ok(false)
     }
 
-    fn show(&self, heap: Global) -> Result<String, AllocError> {
-        String::from_str(heap, if *self { "1" } else { "0" })
+    fn write<W: fmt::Write>(&self, f: &mut fmt::Formatter<W>) -> fmt::Result {
+        f.write_str(if *self { "1" } else { "0" })
     }
 }
 
@@ -175,8 +169,7 @@ impl Text for (usize, usize) {
         Ok((start, end))
     }
 
-    fn show(&self, heap: Global) -> Result<String, AllocError> {
-        let (start, end) = *self;
-        format!(in heap; "{start}-{end}")
+    fn write<W: fmt::Write>(&self, f: &mut fmt::Formatter<W>) -> fmt::Result {
+        write!(f, "{}-{}", self.0, self.1)
     }
 }
