@@ -1,5 +1,7 @@
+ghost use Rattle.std.specs.Prelude.{◌≡◌, IfOk, slice_range};
+ghost use Rattle.std.specs.Str.{IsCharBoundary};
 ghost use Rattle.lines.specs.Cursors.{Onward};
-ghost use Rattle.lines.specs.Kinds.{NamesKind};
+ghost use Rattle.lines.specs.Kinds.{NamesKind, kind_text};
 
 use crate::cursor::Cursor;
 use crate::stop::Bad;
@@ -39,7 +41,8 @@ impl FromStr for KindName {
 }
 
 pub fn read_kind(cursor: &mut Cursor<'_>) -> Result<KindName, Bad>
-    ensures { Onward cursor.old cursor.new }
+    ensures reads { IsCharBoundary cursor.old.text.now cursor.old.at → IfOk result (λ k. slice_range cursor.old.text.now cursor.old.at cursor.new.at ≡ kind_text k) }
+    ensures onward { Onward cursor.old cursor.new }
 {
     let start = cursor.bad();
     cursor.field().parse().map_err(|_| start)

@@ -1,5 +1,6 @@
 // The steps of a cursor: none goes backward.
-ghost use Rattle.std.specs.Prelude.{◌≡◌, ◌+◌, ◌-◌, ◌≤◌, T, length, IfOk, if◌then◌else◌, Ok, OnOk, nat_le, slice_get, slice_index, slice_range};
+ghost use Rattle.std.specs.Prelude.{◌≡◌, ◌≢◌, ℕ, ◌+◌, ◌-◌, ◌<◌, ◌≤◌, T, false, true, length, IfOk, if◌then◌else◌, Ok, OnOk, nat_le, slice_get, slice_index, slice_range};
+ghost use Rattle.std.specs.Int.{IsInRange};
 ghost use Rattle.std.specs.Str.{IsCharBoundary};
 ghost use Rattle.lines.specs.Cursors.{Onward};
 
@@ -7,13 +8,18 @@ use crate::cursor::Cursor;
 use crate::stop::Bad;
 use std::str::FromStr;
 
-// The end of the run of bytes that pass a test, from a place on.
+// Where the first byte from a place on stands that fails a test, or the end.
 fn run_end<F: Fn(u8) -> bool>(text: &[u8], from: usize, passes: F) -> usize
     requires within { from ≤ length text.now }
     requires callable { F.IsAlwaysCallable passes }
-    ensures { (from ≤ result) × (result ≤ length text.now) }
+    ensures within { (from ≤ result) × (result ≤ length text.now) }
+    ensures stops { result < length text.now → F.post passes (slice_index text.now result) false }
+    ensures passed { (k : ℕ) → from + k < result → F.post passes (slice_index text.now (from + k)) true }
 {
-    from + text[from..].iter().take_while(|b| passes(**b)).count()
+    text[from..]
+        .iter()
+        .position(|b| !passes(*b))
+        .map_or(text.len(), |n| from + n)
 }
 
 // The end of the number that begins at a place: a minus sign, then digits.
@@ -108,6 +114,8 @@ impl<'a> Cursor<'a> {
     // The text up to the first byte that fails a test.
     fn run<F: Fn(u8) -> bool>(&mut self, passes: F) -> &'a str
         requires { F.IsAlwaysCallable passes }
+        ensures stops { self.new.at < length self.old.text.now → F.post passes (slice_index self.old.text.now self.new.at) false }
+        ensures passed { (k : ℕ) → self.old.at + k < self.new.at → F.post passes (slice_index self.old.text.now (self.old.at + k)) true }
         ensures text { IsCharBoundary self.old.text.now self.old.at → IsCharBoundary self.old.text.now self.new.at → result.now ≡ slice_range self.old.text.now self.old.at self.new.at }
         ensures onward { Onward self.old self.new }
     {
@@ -119,6 +127,8 @@ impl<'a> Cursor<'a> {
     // A word of small letters.
     pub fn word(&mut self) -> &'a str
         ensures text { IsCharBoundary self.old.text.now self.old.at → IsCharBoundary self.old.text.now self.new.at → result.now ≡ slice_range self.old.text.now self.old.at self.new.at }
+        ensures letters { (k : ℕ) → self.old.at + k < self.new.at → IsInRange 97 122 (slice_index self.old.text.now (self.old.at + k)) }
+        ensures stops { self.new.at < length self.old.text.now → ¬ (IsInRange 97 122 (slice_index self.old.text.now self.new.at)) }
         ensures onward { Onward self.old self.new }
     {
         self.run(|b| b.is_ascii_lowercase())
@@ -126,7 +136,9 @@ impl<'a> Cursor<'a> {
 
     // What comes before the next blank.
     pub fn field(&mut self) -> &'a str
-        ensures text { IsCharBoundary self.old.text.now self.old.at → IsCharBoundary self.old.text.now self.new.at → result.now ≡ slice_range self.old.text.now self.old.at self.new.at }
+        ensures text { IsCharBoundary self.old.text.now self.old.at → result.now ≡ slice_range self.old.text.now self.old.at self.new.at }
+        ensures filled { (k : ℕ) → self.old.at + k < self.new.at → slice_index self.old.text.now (self.old.at + k) ≢ 32 }
+        ensures stops { self.new.at < length self.old.text.now → slice_index self.old.text.now self.new.at ≡ 32 }
         ensures onward { Onward self.old self.new }
     {
         self.run(|b| b != b' ')
