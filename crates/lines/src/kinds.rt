@@ -1,6 +1,6 @@
-ghost use Rattle.std.specs.Prelude.{◌≡◌, IfOk, slice_range};
+ghost use Rattle.std.specs.Prelude.{◌≡◌, IfOk};
 ghost use Rattle.std.specs.Str.{IsCharBoundary};
-ghost use Rattle.lines.specs.Cursors.{Onward};
+ghost use Rattle.lines.specs.Cursors.{Onward, passed};
 ghost use Rattle.lines.specs.Kinds.{NamesKind, kind_text};
 
 use crate::cursor::Cursor;
@@ -41,7 +41,7 @@ impl FromStr for KindName {
 }
 
 pub fn read_kind(cursor: &mut Cursor<'_>) -> Result<KindName, Bad>
-    ensures reads { IsCharBoundary cursor.old.text.now cursor.old.at → IfOk result (λ k. slice_range cursor.old.text.now cursor.old.at cursor.new.at ≡ kind_text k) }
+    ensures reads { IsCharBoundary cursor.old.text.now cursor.old.at → IfOk result (λ k. passed cursor.old cursor.new ≡ kind_text k) }
     ensures onward { Onward cursor.old cursor.new }
 {
     let start = cursor.bad();

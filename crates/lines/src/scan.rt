@@ -1,8 +1,8 @@
 // The steps of a cursor: none goes backward.
-ghost use Rattle.std.specs.Prelude.{◌≡◌, ◌≢◌, ℕ, ◌+◌, ◌-◌, ◌<◌, ◌≤◌, T, false, true, length, IfOk, if◌then◌else◌, Ok, OnOk, nat_le, slice_get, slice_index, slice_range};
+ghost use Rattle.std.specs.Prelude.{◌≡◌, ◌≢◌, ℕ, [], ◌∷◌, ◌+◌, ◌-◌, ◌<◌, ◌≤◌, T, false, true, length, IfOk, if◌then◌else◌, Ok, OnOk, nat_le, slice_get, slice_index, slice_range};
 ghost use Rattle.std.specs.Int.{IsInRange};
 ghost use Rattle.std.specs.Str.{IsCharBoundary};
-ghost use Rattle.lines.specs.Cursors.{Onward};
+ghost use Rattle.lines.specs.Cursors.{Onward, passed};
 
 use crate::cursor::Cursor;
 use crate::stop::Bad;
@@ -14,7 +14,7 @@ fn run_end<F: Fn(u8) -> bool>(text: &[u8], from: usize, passes: F) -> usize
     requires callable { F.IsAlwaysCallable passes }
     ensures within { (from ≤ result) × (result ≤ length text.now) }
     ensures stops { result < length text.now → F.post passes (slice_index text.now result) false }
-    ensures passed { (k : ℕ) → from + k < result → F.post passes (slice_index text.now (from + k)) true }
+    ensures each { (k : ℕ) → from + k < result → F.post passes (slice_index text.now (from + k)) true }
 {
     text[from..]
         .iter()
@@ -38,7 +38,8 @@ fn number_end(text: &[u8], from: usize) -> usize
 impl<'a> Cursor<'a> {
     // At the beginning of a line.
     pub fn new(text: &'a str) -> Cursor<'a>
-        ensures { result.at ≡ 0 }
+        ensures text { result.text.now ≡ text.now }
+        ensures at { result.at ≡ 0 }
     {
         Cursor { text, at: 0 }
     }
@@ -76,6 +77,7 @@ impl<'a> Cursor<'a> {
     pub fn take(&mut self, byte: u8) -> bool
         ensures step { self.new.at ≡ (if result then self.old.at + 1 else self.old.at) }
         ensures found { T result → slice_index self.old.text.now self.old.at ≡ byte }
+        ensures text { T result → passed self.old self.new ≡ byte ∷ [] }
         ensures onward { Onward self.old self.new }
     {
         if self.peek() == Some(byte) {
@@ -88,6 +90,7 @@ impl<'a> Cursor<'a> {
     // Passes over a byte that has to come.
     pub fn expect(&mut self, byte: u8) -> Result<(), Bad>
         ensures found { OnOk result ((slice_index self.old.text.now self.old.at ≡ byte) × (self.new.at ≡ self.old.at + 1)) }
+        ensures text { OnOk result (passed self.old self.new ≡ byte ∷ []) }
         ensures onward { Onward self.old self.new }
     {
         if self.take(byte) {
@@ -100,7 +103,7 @@ impl<'a> Cursor<'a> {
     pub fn number<N: FromStr>(&mut self) -> Result<N, Bad>
     where
         N::Err: Drop,
-        ensures reads { IfOk result (λ n. N.FromStr.from_str_gives (slice_range self.old.text.now self.old.at self.new.at) (Ok n)) }
+        ensures reads { IfOk result (λ n. N.FromStr.from_str_gives (passed self.old self.new) (Ok n)) }
         ensures onward { Onward self.old self.new }
     {
         let start = self.bad();
@@ -115,8 +118,8 @@ impl<'a> Cursor<'a> {
     fn run<F: Fn(u8) -> bool>(&mut self, passes: F) -> &'a str
         requires { F.IsAlwaysCallable passes }
         ensures stops { self.new.at < length self.old.text.now → F.post passes (slice_index self.old.text.now self.new.at) false }
-        ensures passed { (k : ℕ) → self.old.at + k < self.new.at → F.post passes (slice_index self.old.text.now (self.old.at + k)) true }
-        ensures text { IsCharBoundary self.old.text.now self.old.at → IsCharBoundary self.old.text.now self.new.at → result.now ≡ slice_range self.old.text.now self.old.at self.new.at }
+        ensures each { (k : ℕ) → self.old.at + k < self.new.at → F.post passes (slice_index self.old.text.now (self.old.at + k)) true }
+        ensures text { IsCharBoundary self.old.text.now self.old.at → IsCharBoundary self.old.text.now self.new.at → result.now ≡ passed self.old self.new }
         ensures onward { Onward self.old self.new }
     {
         let from = self.at;
@@ -126,7 +129,7 @@ impl<'a> Cursor<'a> {
 
     // A word of small letters.
     pub fn word(&mut self) -> &'a str
-        ensures text { IsCharBoundary self.old.text.now self.old.at → IsCharBoundary self.old.text.now self.new.at → result.now ≡ slice_range self.old.text.now self.old.at self.new.at }
+        ensures text { IsCharBoundary self.old.text.now self.old.at → IsCharBoundary self.old.text.now self.new.at → result.now ≡ passed self.old self.new }
         ensures letters { (k : ℕ) → self.old.at + k < self.new.at → IsInRange 97 122 (slice_index self.old.text.now (self.old.at + k)) }
         ensures stops { self.new.at < length self.old.text.now → ¬ (IsInRange 97 122 (slice_index self.old.text.now self.new.at)) }
         ensures onward { Onward self.old self.new }
@@ -136,7 +139,7 @@ impl<'a> Cursor<'a> {
 
     // What comes before the next blank.
     pub fn field(&mut self) -> &'a str
-        ensures text { IsCharBoundary self.old.text.now self.old.at → result.now ≡ slice_range self.old.text.now self.old.at self.new.at }
+        ensures text { IsCharBoundary self.old.text.now self.old.at → result.now ≡ passed self.old self.new }
         ensures filled { (k : ℕ) → self.old.at + k < self.new.at → slice_index self.old.text.now (self.old.at + k) ≢ 32 }
         ensures stops { self.new.at < length self.old.text.now → slice_index self.old.text.now self.new.at ≡ 32 }
         ensures onward { Onward self.old self.new }

@@ -1,6 +1,6 @@
-ghost use Rattle.std.specs.Prelude.{ℕ, List, Some};
+ghost use Rattle.std.specs.Prelude.{ℕ, List, IfOk, Some};
 ghost use Rattle.std.specs.Fmt.{WritesOnOk};
-ghost use Rattle.lines.specs.Cursors.{Onward};
+ghost use Rattle.lines.specs.Cursors.{Onward, passed};
 
 use crate::cursor::Cursor;
 use crate::stop::Bad;
@@ -11,8 +11,12 @@ use std::fmt;
 pub trait Text: Copy {
     ghost text: { Self → List ℕ };
 
+    // Holds of a text and the value that it is read as.
+    ghost reads: { List ℕ → Self → Type 0 };
+
     fn read(cursor: &mut Cursor<'_>) -> Result<Self, Bad>
-        ensures { Onward cursor.old cursor.new };
+        ensures reads { IfOk result (λ x. reads (passed cursor.old cursor.new) x) }
+        ensures onward { Onward cursor.old cursor.new };
 
     fn write<W: fmt::Write>(&self, f: &mut fmt::Formatter<W>) -> fmt::Result
         ensures { WritesOnOk W.Write.write_str_gives f.old result (text self.now) f.new };

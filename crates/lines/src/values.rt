@@ -1,3 +1,4 @@
+ghost use Rattle.lines.specs.Reads.{ReadsInstant, ReadsPseudonym, ReadsCode, ReadsOutcome, ReadsPair, ReadsCell, ReadsMark, ReadsSpan};
 ghost use Rattle.lines.specs.Texts.{instant_text, pseudonym_text, code_text, outcome_text, pair_text, cell_text, mark_text, span_text};
 
 use crate::cursor::Cursor;
@@ -9,6 +10,8 @@ use std::fmt;
 // A decimal number.
 impl Text for Instant {
     ghost text = { instant_text };
+
+    ghost reads = { ReadsInstant };
 
     fn read(cursor: &mut Cursor<'_>) -> Result<Instant, Bad> {
         Ok(Instant(cursor.number::<i64>()?))
@@ -28,6 +31,8 @@ impl Value for Instant {
 // `A:B`, the high part first.
 impl Text for Pseudonym {
     ghost text = { pseudonym_text };
+
+    ghost reads = { ReadsPseudonym };
 
     fn read(cursor: &mut Cursor<'_>) -> Result<Pseudonym, Bad> {
         let high = cursor.number::<u64>()?;
@@ -51,6 +56,8 @@ impl Value for Pseudonym {
 impl Text for CollegeCode {
     ghost text = { code_text };
 
+    ghost reads = { ReadsCode };
+
     fn read(cursor: &mut Cursor<'_>) -> Result<CollegeCode, Bad> {
         Ok(CollegeCode(cursor.number::<u64>()?))
     }
@@ -69,6 +76,8 @@ impl Value for CollegeCode {
 // `g`, `t`, or `r` and the reason.
 impl Text for LoginOutcome {
     ghost text = { outcome_text };
+
+    ghost reads = { ReadsOutcome };
 
     fn read(cursor: &mut Cursor<'_>) -> Result<LoginOutcome, Bad> {
         if cursor.take(b'g') {
@@ -100,6 +109,8 @@ impl Value for LoginOutcome {
 impl<A: Text, B: Text> Text for Pair<A, B> {
     ghost text = { pair_text A.Text.text B.Text.text };
 
+    ghost reads = { ReadsPair A.Text.reads B.Text.reads };
+
     fn read(cursor: &mut Cursor<'_>) -> Result<Pair<A, B>, Bad> {
         cursor.expect(b'<')?;
         let first = A::read(cursor)?;
@@ -126,6 +137,8 @@ impl<A: Value, B: Value> Value for Pair<A, B> {
 impl<K: Text> Text for Option<K> {
     ghost text = { cell_text K.Text.text };
 
+    ghost reads = { ReadsCell K.Text.reads };
+
     fn read(cursor: &mut Cursor<'_>) -> Result<Option<K>, Bad> {
         if cursor.take(b'_') {
             return Ok(None);
@@ -145,6 +158,8 @@ impl<K: Text> Text for Option<K> {
 impl Text for bool {
     ghost text = { mark_text };
 
+    ghost reads = { ReadsMark };
+
     fn read(cursor: &mut Cursor<'_>) -> Result<bool, Bad> {
         if cursor.take(b'1') {
             return Ok(true);
@@ -161,6 +176,8 @@ impl Text for bool {
 // `S-E`: a frame or a group.
 impl Text for (usize, usize) {
     ghost text = { span_text };
+
+    ghost reads = { ReadsSpan };
 
     fn read(cursor: &mut Cursor<'_>) -> Result<(usize, usize), Bad> {
         let start = cursor.number::<usize>()?;
