@@ -81,11 +81,7 @@ fn calls_of<'a, K: Kind>(
 ) -> Result<Vec<Call<'a, K>>, AllocError>
     ensures { IfOk result (λ v. (vec_len v ≡ length steps.now) × AllStand steps.now v.items (length steps.now)) }
 {
-    let mut calls = Vec::new(heap);
-    for step in steps {
-        calls.push(call_of(&step.op))?;
-    }
-    Ok(calls)
+    steps.iter().map(|step| call_of(&step.op)).collect(heap)
 }
 
 // Finishes a new run after the calls.

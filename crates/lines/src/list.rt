@@ -17,6 +17,7 @@ pub fn read_list<T: Text>(heap: Global, cursor: &mut Cursor<'_>) -> Result<Vec<T
     if cursor.take(b']') {
         return Ok(items);
     }
+    // A `while` over the commas would read an item in two places.
     loop {
         items.push(T::read(cursor)?)?;
         if !cursor.take(b',') {

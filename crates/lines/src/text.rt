@@ -7,7 +7,7 @@ use crate::stop::Bad;
 use column::kind::Kind;
 use std::fmt;
 
-// What a word of a line stands for.
+// What a word of a line stands for; `Shown` has its `Display`, which these types cannot be given here: they are std's or another crate's.
 pub trait Text: Copy {
     ghost text: { Self → List ℕ };
 
