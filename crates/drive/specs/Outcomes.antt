@@ -1,5 +1,5 @@
 -- The texts of outcomes.
-use Rattle.std.specs.Prelude.{ℕ, List, ◌++◌, codes, decimal, Option}
+use Rattle.std.specs.Prelude.{ℕ, List, ◌++◌, codes, decimal, Option, Some, None, Result, Ok, Err}
 use Rattle.column.specs.Fault.{number, place}
 use Rattle.column.specs.declared.fault.Fault.{Fault}
 use Rattle.replay.specs.declared.calls.Outcome.{Outcome}
@@ -18,3 +18,9 @@ outcome_text value_text (Refused f) = refusal_text f
 outcome_text value_text Done = codes "ok"
 outcome_text value_text (Mark n) = decimal n
 outcome_text value_text NotTaken = codes "no:closed"
+
+-- of an attempt to finish: the rows, a refusal, or that the run is not closed
+abbrev pub ending_text : Option (Result ℕ Fault) → List ℕ
+ending_text (Some (Ok rows)) = codes "ok:" ++ decimal rows
+ending_text (Some (Err f)) = refusal_text f
+ending_text None = codes "no:open"

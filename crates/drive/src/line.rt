@@ -1,6 +1,6 @@
 // A line with its outcome.
 use crate::ops::read_steps;
-use crate::outcome::show_refusal;
+use crate::outcome::Refusal;
 use crate::runs::answer_run;
 use crate::whole::answer_whole;
 use column::column::ROW_LIMIT;
@@ -10,7 +10,7 @@ use evaluator::mirror::MirrorEvaluator;
 use lead_lag::WindowShift;
 use lines::cursor::Cursor;
 use lines::kinds::{KindName, read_kind};
-use lines::shift::{Shift, read_shift};
+use lines::shift::read_shift;
 use lines::stop::{Bad, Stop};
 use lines::text::{Text, Value};
 use std::alloc::Global;
@@ -46,21 +46,6 @@ fn read_limit(cursor: &mut Cursor<'_>) -> Result<(), Bad> {
     Ok(())
 }
 
-fn make<K: Value>(shift: Shift<K>) -> Result<WindowShift<K>, Fault> {
-    WindowShift::new(
-        shift.kind,
-        shift.offset,
-        shift.reversed,
-        shift.ignore_nulls,
-        shift.default,
-    )
-}
-
-fn make_mirror<K: Value>(shift: Shift<K>) -> Result<WindowShift<K>, Fault> {
-    let made = make(shift)?;
-    Ok(made.mirror())
-}
-
 fn whole_line<K: Value>(
     heap: Global,
     text: &str,
@@ -86,13 +71,10 @@ fn run_line<K: Value>(
     let steps = read_steps::<K>(heap, cursor)?;
     match made {
         Ok(shift) => {
-            let ops = answer_run(heap, &shift, from_zero, text, steps.as_slice())?;
+            let ops = answer_run(heap, &shift, from_zero, steps.as_slice())?;
             Ok(format!(in heap; "{head}{ops}")?)
         }
-        Err(fault) => {
-            let refusal = show_refusal(heap, fault)?;
-            Ok(format!(in heap; "{text} = {refusal}")?)
-        }
+        Err(fault) => Ok(format!(in heap; "{text} = {}", Refusal(fault))?),
     }
 }
 
@@ -104,10 +86,11 @@ fn answer_at<K: Value>(heap: Global, text: &str) -> Result<String, Stop> {
     cursor.expect(b' ')?;
     cursor.field();
     cursor.expect(b' ')?;
+    let made = WindowShift::try_from(shift);
     match form {
-        Form::Whole => whole_line(heap, text, &mut cursor, make(shift)),
-        Form::Mirror => whole_line(heap, text, &mut cursor, make_mirror(shift)),
-        Form::Run => run_line(heap, text, &mut cursor, make(shift)),
+        Form::Whole => whole_line(heap, text, &mut cursor, made),
+        Form::Mirror => whole_line(heap, text, &mut cursor, made.map(|shift| shift.mirror())),
+        Form::Run => run_line(heap, text, &mut cursor, made),
     }
 }
 
@@ -134,16 +117,9 @@ pub(crate) fn answer_line(heap: Global, line: &str) -> Result<String, Stop> {
     if line.is_empty() || line.starts_with('#') {
         return Ok(String::from_str(heap, line)?);
     }
-    let text = match line.split_once(" = ") {
-        Some((text, _)) => text,
-        None => line,
-    };
+    let text = line.split_once(" = ").map_or(line, |(text, _)| text);
     match answer(heap, text) {
-        Ok(answered) => Ok(answered),
-        Err(Stop::Unread(bad)) => {
-            let column = bad.column;
-            Ok(format!(in heap; "{text} = bad:{column}")?)
-        }
-        Err(Stop::Memory) => Err(Stop::Memory),
+        Err(Stop::Unread(bad)) => Ok(format!(in heap; "{text} = {bad}")?),
+        answered => answered,
     }
 }

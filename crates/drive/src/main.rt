@@ -9,7 +9,6 @@ mod whole;
 
 use crate::line::answer_line;
 use anyhow::anyhow;
-use lines::stop::Stop;
 use std::{env, fs, io};
 
 fn text_of(rt: &HostRuntime, name: Option<String>) -> io::Result<String> {
@@ -27,10 +26,8 @@ fn run(rt: &HostRuntime) -> anyhow::Result<()> {
     }
     let text = text_of(rt, name)?;
     for line in text.as_str().lines() {
-        match answer_line(rt.alloc(), line) {
-            Ok(answered) => println!(rt; "{answered}")?,
-            Err(_) => return Err(anyhow!("not enough memory")),
-        }
+        let answered = answer_line(rt.alloc(), line).map_err(|_| anyhow!("not enough memory"))?;
+        println!(rt; "{answered}")?;
     }
     Ok(())
 }

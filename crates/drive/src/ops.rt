@@ -1,4 +1,6 @@
 // The operations of a run as a line has them.
+ghost use Rattle.lines.specs.Cursors.{Onward};
+
 use lines::columns::{Lists, read_column};
 use lines::cursor::Cursor;
 use lines::stop::{Bad, Stop};
@@ -21,17 +23,18 @@ pub enum Op<K> {
     Finish,
 }
 
-// An operation, and where its text stands in the line.
+// An operation, with its text and where that begins in the line.
 #[derive(Drop)]
-pub struct Step<K> {
+pub struct Step<'a, K> {
     pub op: Op<K>,
+    pub text: &'a str,
     pub start: Bad,
-    pub from: usize,
-    pub to: usize,
 }
 
 // `b|V[..]|M[..]|FRAME`, without a frame for `-`.
-fn read_request<K: Value>(heap: Global, cursor: &mut Cursor<'_>) -> Result<Request<K>, Stop> {
+fn read_request<K: Value>(heap: Global, cursor: &mut Cursor<'_>) -> Result<Request<K>, Stop>
+    ensures { Onward cursor.old cursor.new }
+{
     let begin = cursor.number::<usize>()?;
     cursor.expect(b'|')?;
     let column = read_column::<K>(heap, cursor, b'|')?;
@@ -48,7 +51,9 @@ fn read_request<K: Value>(heap: Global, cursor: &mut Cursor<'_>) -> Result<Reque
     })
 }
 
-fn read_op<K: Value>(heap: Global, cursor: &mut Cursor<'_>) -> Result<Op<K>, Stop> {
+fn read_op<K: Value>(heap: Global, cursor: &mut Cursor<'_>) -> Result<Op<K>, Stop>
+    ensures { Onward cursor.old cursor.new }
+{
     let start = cursor.bad();
     let name = cursor.word();
     cursor.expect(b'{')?;
@@ -65,35 +70,28 @@ fn read_op<K: Value>(heap: Global, cursor: &mut Cursor<'_>) -> Result<Op<K>, Sto
 }
 
 // An operation, and past an outcome that stands behind it.
-fn read_step<K: Value>(heap: Global, cursor: &mut Cursor<'_>) -> Result<Step<K>, Stop> {
+fn read_step<'a, K: Value>(heap: Global, cursor: &mut Cursor<'a>) -> Result<Step<'a, K>, Stop>
+    ensures { Onward cursor.old cursor.new }
+{
     let start = cursor.bad();
     let from = cursor.at();
     let op = read_op(heap, cursor)?;
-    let to = cursor.at();
+    let text = cursor.since(from);
     if cursor.take(b'>') {
         cursor.field();
     }
-    Ok(Step {
-        op,
-        start,
-        from,
-        to,
-    })
+    Ok(Step { op, text, start })
 }
 
 // The operations up to the line's end.
-pub(crate) fn read_steps<K: Value>(
+pub(crate) fn read_steps<'a, K: Value>(
     heap: Global,
-    cursor: &mut Cursor<'_>,
-) -> Result<Vec<Step<K>>, Stop> {
+    cursor: &mut Cursor<'a>,
+) -> Result<Vec<Step<'a, K>>, Stop> {
     let mut steps = Vec::new(heap);
-    for _ in 0..cursor.left() {
-        if cursor.is_end() {
-            break;
-        }
+    while !cursor.is_end() {
         cursor.expect(b' ')?;
         steps.push(read_step::<K>(heap, cursor)?)?;
     }
-    cursor.end()?;
     Ok(steps)
 }

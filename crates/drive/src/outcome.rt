@@ -1,18 +1,17 @@
-ghost use Rattle.std.specs.Prelude.{◌≡◌, IfOk, string_bytes};
-ghost use Rattle.drive.specs.Outcomes.{refused_text, refusal_text};
+ghost use Rattle.std.specs.Prelude.{Some};
+ghost use Rattle.drive.specs.Outcomes.{refusal_text};
 
 use column::fault::Fault;
-use std::alloc::{AllocError, Global};
+use std::fmt;
 
-fn show_refused(heap: Global, number: usize, place: usize) -> Result<String, AllocError>
-    ensures { IfOk result (λ s. string_bytes s ≡ refused_text number place) }
-{
-    format!(in heap; "no:{number}:{place}")
-}
+// A refusal, printed as `no:NUMBER:PLACE`.
+#[derive(Clone, Copy)]
+pub struct Refusal(pub Fault);
 
-// `no:NUMBER:PLACE`.
-pub fn show_refusal(heap: Global, fault: Fault) -> Result<String, AllocError>
-    ensures { IfOk result (λ s. string_bytes s ≡ refusal_text fault) }
-{
-    show_refused(heap, fault.number(), fault.place())
+impl fmt::Display for Refusal {
+    ghost output = { λ r. Some (refusal_text r.0) };
+
+    fn fmt<W: fmt::Write>(&self, f: &mut fmt::Formatter<W>) -> fmt::Result {
+        write!(f, "no:{}:{}", self.0.number(), self.0.place())
+    }
 }

@@ -1,27 +1,54 @@
 // A run, with the calls that a line makes on it.
-ghost use Rattle.std.specs.Prelude.{◌≡◌, length, IfOk, vec_len, string_bytes};
+ghost use Rattle.std.specs.Prelude.{◌≡◌, length, Some, IfOk, vec_len};
 ghost use Rattle.drive.specs.Calls.{Stands, AllStand};
-ghost use Rattle.drive.specs.Outcomes.{outcome_text};
+ghost use Rattle.drive.specs.Outcomes.{ending_text, outcome_text};
 
 use crate::ops::{Op, Request, Step};
-use crate::outcome::show_refusal;
-use column::column::{Column, Window};
+use crate::outcome::Refusal;
+use column::column::Window;
 use column::fault::Fault;
 use column::kind::Kind;
 use lead_lag::WindowShift;
 use lines::stop::Stop;
-use lines::text::{Text, Value};
+use lines::text::{Shown, Text, Value};
 use replay::calls::{Call, Outcome};
 use replay::replay::{Played, replay};
 use run::run::Run;
 use std::alloc::{AllocError, Global};
+use std::fmt;
 
-// What an attempt to finish ends in.
+// What an attempt to finish ends in: the rows or a refusal, and nothing where the run is not closed.
 #[derive(Clone, Copy)]
-enum Ending {
-    Rows(usize),
-    Refused(Fault),
-    NotClosed,
+struct Ending(Option<Result<usize, Fault>>);
+
+impl fmt::Display for Ending {
+    ghost output = { λ e. Some (ending_text e.0) };
+
+    fn fmt<W: fmt::Write>(&self, f: &mut fmt::Formatter<W>) -> fmt::Result {
+        match self.0 {
+            Some(Ok(rows)) => write!(f, "ok:{rows}"),
+            Some(Err(fault)) => write!(f, "{}", Refusal(fault)),
+            None => f.write_str("no:open"),
+        }
+    }
+}
+
+// What a call ended in, printed as lines have it.
+#[derive(Clone, Copy)]
+struct Told<K>(Outcome<Option<K>>);
+
+impl<K: Text> fmt::Display for Told<K> {
+    ghost output = { λ x. Some (outcome_text K.Text.text x.0) };
+
+    fn fmt<W: fmt::Write>(&self, f: &mut fmt::Formatter<W>) -> fmt::Result {
+        match self.0 {
+            Outcome::Answer(cell) => write!(f, "ok:{}", Shown(cell)),
+            Outcome::Refused(fault) => write!(f, "{}", Refusal(fault)),
+            Outcome::Done => f.write_str("ok"),
+            Outcome::Mark(mark) => write!(f, "{mark}"),
+            Outcome::NotTaken => f.write_str("no:closed"),
+        }
+    }
 }
 
 fn window_of<'a, K: Kind>(request: &'a Request<K>) -> Window<'a, K>
@@ -29,12 +56,9 @@ fn window_of<'a, K: Kind>(request: &'a Request<K>) -> Window<'a, K>
     ensures values { result.rows.values.now ≡ request.now.column.values.items }
     ensures marks { result.rows.marks.now ≡ request.now.column.marks.items }
 {
-    let values = request.column.values.as_slice();
-    let marks = request.column.marks.as_slice();
-    let rows = Column { values, marks };
     Window {
         begin: request.begin,
-        rows,
+        rows: request.column.as_column(),
     }
 }
 
@@ -51,14 +75,13 @@ fn call_of<'a, K: Kind>(op: &'a Op<K>) -> Call<'a, K>
 }
 
 // A call for each operation; in the place of a finish the keep mark is read, which changes nothing.
-fn calls_of<'a, K: Kind>(heap: Global, steps: &'a [Step<K>]) -> Result<Vec<Call<'a, K>>, AllocError>
+fn calls_of<'a, K: Kind>(
+    heap: Global,
+    steps: &'a [Step<'_, K>],
+) -> Result<Vec<Call<'a, K>>, AllocError>
     ensures { IfOk result (λ v. (vec_len v ≡ length steps.now) × AllStand steps.now v.items (length steps.now)) }
 {
-    let mut calls = Vec::new(heap);
-    for step in steps {
-        calls.push(call_of(&step.op))?;
-    }
-    Ok(calls)
+    steps.iter().map(|step| call_of(&step.op)).collect(heap)
 }
 
 // Finishes a new run after the calls.
@@ -71,34 +94,11 @@ fn finish<K: Value>(
     let Played { run, entries } = replay(heap, shift, from_zero, calls)?;
     drop(entries);
     match run {
-        Run::Opened(_) => Ok(Ending::NotClosed),
-        Run::Shut(closed) => match closed.finish() {
-            Ok((_, rows)) => Ok(Ending::Rows(rows)),
-            Err((fault, _)) => Ok(Ending::Refused(fault)),
-        },
-    }
-}
-
-fn show_ending(heap: Global, ending: Ending) -> Result<String, AllocError> {
-    match ending {
-        Ending::Rows(rows) => format!(in heap; "ok:{rows}"),
-        Ending::Refused(fault) => show_refusal(heap, fault),
-        Ending::NotClosed => String::from_str(heap, "no:open"),
-    }
-}
-
-fn show_outcome<K: Value>(heap: Global, outcome: Outcome<Option<K>>) -> Result<String, AllocError>
-    ensures { IfOk result (λ s. string_bytes s ≡ outcome_text K.Text.text outcome) }
-{
-    match outcome {
-        Outcome::Answer(cell) => {
-            let shown = cell.show(heap)?;
-            format!(in heap; "ok:{shown}")
+        Run::Opened(_) => Ok(Ending(None)),
+        Run::Shut(closed) => {
+            let finished = closed.finish();
+            Ok(Ending(Some(finished.map(|(_, rows)| rows).map_err(|(fault, _)| fault))))
         }
-        Outcome::Refused(fault) => show_refusal(heap, fault),
-        Outcome::Done => String::from_str(heap, "ok"),
-        Outcome::Mark(mark) => format!(in heap; "{mark}"),
-        Outcome::NotTaken => String::from_str(heap, "no:closed"),
     }
 }
 
@@ -107,27 +107,23 @@ pub(crate) fn answer_run<K: Value>(
     heap: Global,
     shift: &WindowShift<K>,
     from_zero: bool,
-    line: &str,
-    steps: &[Step<K>],
+    steps: &[Step<'_, K>],
 ) -> Result<String, Stop> {
     let calls = calls_of(heap, steps)?;
     let played = replay(heap, shift, from_zero, calls.as_slice())?;
     let mut text = String::new(heap);
-    let mut finished = false;
-    for (i, step) in steps.iter().enumerate() {
-        if finished {
-            return Err(Stop::Unread(step.start));
-        }
-        let outcome = match step.op {
+    for (i, (step, entry)) in steps.iter().zip(played.entries.iter()).enumerate() {
+        let op = step.text;
+        match step.op {
             Op::Finish => {
-                let ending = finish(heap, shift, from_zero, &calls.as_slice()[0..i])?;
-                finished = matches!(ending, Ending::Rows(_));
-                show_ending(heap, ending)?
+                let ending = finish(heap, shift, from_zero, &calls.as_slice()[..i])?;
+                if let (Ending(Some(Ok(_))), Some(next)) = (ending, steps.get(i + 1)) {
+                    return Err(Stop::Unread(next.start));
+                }
+                write!(text, " {op}>{ending}")?;
             }
-            _ => show_outcome(heap, played.entries[i].outcome)?,
-        };
-        let op = line.get(step.from..step.to).unwrap_or("");
-        text.push_str(format!(in heap; " {op}>{outcome}")?.as_str())?;
+            _ => write!(text, " {op}>{}", Told(entry.outcome))?,
+        }
     }
     Ok(text)
 }

@@ -1,2 +1,4 @@
 pub mod Cursors
+pub mod Kinds
+pub mod Reads
 pub mod Texts

@@ -1,6 +1,7 @@
 -- The texts of values.
 use Rattle.std.specs.Prelude.{ℕ, Bool, true, false, List, [], ◌∷◌, ◌++◌, Some, None, codes, decimal, Option}
 use Rattle.std.specs.Fmt.{signed_decimal}
+use Rattle.std.specs.List.{flat_map}
 use Rattle.column.specs.declared.kind.Instant.{Instant}
 use Rattle.column.specs.declared.kind.Pseudonym.{Pseudonym}
 use Rattle.column.specs.declared.kind.CollegeCode.{CollegeCode}
@@ -38,8 +39,7 @@ span_text x = decimal x.0 ++ (codes "-" ++ decimal x.1)
 
 -- each with a comma before it
 abbrev pub rest_text : {V : Type 0} → (V → List ℕ) → List V → List ℕ
-rest_text one [] = []
-rest_text one (x ∷ xs) = codes "," ++ (one x ++ rest_text one xs)
+rest_text one xs = flat_map (λ x. codes "," ++ one x) xs
 
 -- with commas between them
 abbrev pub joined : {V : Type 0} → (V → List ℕ) → List V → List ℕ

@@ -1,16 +1,30 @@
+ghost use Rattle.std.specs.Prelude.{◌≡◌};
 ghost use Rattle.lines.specs.Cursors.{Onward};
 
 use crate::cursor::Cursor;
 use crate::list::read_list;
 use crate::stop::Stop;
 use crate::text::Text;
+use column::column::Column;
 use std::alloc::Global;
 
-// The lists of a column, which may differ in length.
+// The lists of a column, which may differ in length; two lists, since a column lends them so.
 #[derive(Drop)]
 pub struct Lists<K> {
     pub values: Vec<K>,
     pub marks: Vec<bool>,
+}
+
+impl<K> Lists<K> {
+    pub fn as_column(&self) -> Column<'_, K>
+        ensures values { result.values.now ≡ self.now.values.items }
+        ensures marks { result.marks.now ≡ self.now.marks.items }
+    {
+        Column {
+            values: self.values.as_slice(),
+            marks: self.marks.as_slice(),
+        }
+    }
 }
 
 // `V[..]` and `M[..]`, with a byte between them.

@@ -1,7 +1,11 @@
-ghost use Rattle.lines.specs.Cursors.{Onward};
+ghost use Rattle.std.specs.Prelude.{◌≡◌, IfOk};
+ghost use Rattle.std.specs.Str.{IsCharBoundary};
+ghost use Rattle.lines.specs.Cursors.{Onward, passed};
+ghost use Rattle.lines.specs.Kinds.{NamesKind, kind_text};
 
 use crate::cursor::Cursor;
 use crate::stop::Bad;
+use std::str::FromStr;
 
 // The kinds of values that lines are read at.
 #[derive(Clone, Copy)]
@@ -14,17 +18,32 @@ pub enum KindName {
     OutcomeLogin,
 }
 
+// A text that names no kind.
+#[derive(Clone, Copy)]
+pub struct UnknownKind;
+
+impl FromStr for KindName {
+    type Err = UnknownKind;
+
+    ghost from_str_gives = { NamesKind };
+
+    fn from_str(name: &str) -> Result<KindName, UnknownKind> {
+        match name {
+            "i" => Ok(KindName::Instant),
+            "p" => Ok(KindName::Pseudonym),
+            "c" => Ok(KindName::Code),
+            "o" => Ok(KindName::Outcome),
+            "(i,c)" => Ok(KindName::InstantCode),
+            "(o,(i,p))" => Ok(KindName::OutcomeLogin),
+            _ => Err(UnknownKind),
+        }
+    }
+}
+
 pub fn read_kind(cursor: &mut Cursor<'_>) -> Result<KindName, Bad>
-    ensures { Onward cursor.old cursor.new }
+    ensures reads { IsCharBoundary cursor.old.text.now cursor.old.at → IfOk result (λ k. passed cursor.old cursor.new ≡ kind_text k) }
+    ensures onward { Onward cursor.old cursor.new }
 {
     let start = cursor.bad();
-    match cursor.field() {
-        "i" => Ok(KindName::Instant),
-        "p" => Ok(KindName::Pseudonym),
-        "c" => Ok(KindName::Code),
-        "o" => Ok(KindName::Outcome),
-        "(i,c)" => Ok(KindName::InstantCode),
-        "(o,(i,p))" => Ok(KindName::OutcomeLogin),
-        _ => Err(start),
-    }
+    cursor.field().parse().map_err(|_| start)
 }

@@ -1,11 +1,12 @@
-ghost use Rattle.std.specs.Prelude.{◌≡◌, ◌++◌, IfOk, string_bytes, OnOk};
+ghost use Rattle.std.specs.Prelude.{Some};
 ghost use Rattle.lines.specs.Cursors.{Onward};
-ghost use Rattle.lines.specs.Texts.{rest_text, list_text};
+ghost use Rattle.lines.specs.Texts.{list_text};
 
 use crate::cursor::Cursor;
 use crate::stop::Stop;
-use crate::text::Text;
-use std::alloc::{AllocError, Global};
+use crate::text::{Shown, Text};
+use std::alloc::Global;
+use std::fmt;
 
 // `[x,y,..]`.
 pub fn read_list<T: Text>(heap: Global, cursor: &mut Cursor<'_>) -> Result<Vec<T>, Stop>
@@ -16,7 +17,8 @@ pub fn read_list<T: Text>(heap: Global, cursor: &mut Cursor<'_>) -> Result<Vec<T
     if cursor.take(b']') {
         return Ok(items);
     }
-    for _ in 0..cursor.left() {
+    // A `while` over the commas would read an item in two places.
+    loop {
         items.push(T::read(cursor)?)?;
         if !cursor.take(b',') {
             break;
@@ -26,26 +28,21 @@ pub fn read_list<T: Text>(heap: Global, cursor: &mut Cursor<'_>) -> Result<Vec<T
     Ok(items)
 }
 
-// The items after the first, each with a comma before it.
-fn push_rest<T: Text>(heap: Global, text: &mut String, rest: &[T]) -> Result<(), AllocError>
-    ensures { OnOk result (string_bytes text.new ≡ string_bytes text.old ++ rest_text T.Text.text rest.now) }
-{
-    for item in rest {
-        let shown = item.show(heap)?;
-        let more = format!(in heap; ",{shown}")?;
-        text.push_str(more.as_str())?;
-    }
-    Ok(())
-}
+// A list, printed as lines have it.
+#[derive(Clone, Copy)]
+pub struct ShownList<'a, T>(pub &'a [T]);
 
-// The text of a list.
-pub fn show_list<T: Text>(heap: Global, items: &[T]) -> Result<String, AllocError>
-    ensures { IfOk result (λ s. string_bytes s ≡ list_text T.Text.text items.now) }
-{
-    let Some((first, rest)) = items.split_first() else {
-        return String::from_str(heap, "[]");
-    };
-    let mut text = first.show(heap)?;
-    push_rest(heap, &mut text, rest)?;
-    format!(in heap; "[{text}]")
+impl<T: Text> fmt::Display for ShownList<'_, T> {
+    ghost output = { λ x. Some (list_text T.Text.text x.0.now) };
+
+    fn fmt<W: fmt::Write>(&self, f: &mut fmt::Formatter<W>) -> fmt::Result {
+        f.write_str("[")?;
+        if let Some((first, rest)) = self.0.split_first() {
+            first.write(f)?;
+            for item in rest {
+                write!(f, ",{}", Shown(*item))?;
+            }
+        }
+        f.write_str("]")
+    }
 }

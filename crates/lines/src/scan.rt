@@ -1,37 +1,25 @@
 // The steps of a cursor: none goes backward.
-ghost use Rattle.std.specs.Prelude.{◌≡◌, ◌+◌, ◌-◌, ◌≤◌, T, length, IfOk, if◌then◌else◌, Ok, MatchOption, OnOk, nat_le, slice_index, slice_range};
-ghost use Rattle.lines.specs.Cursors.{Onward};
+ghost use Rattle.std.specs.Prelude.{◌≡◌, ◌≢◌, ℕ, [], ◌∷◌, ◌+◌, ◌-◌, ◌<◌, ◌≤◌, T, false, true, length, IfOk, if◌then◌else◌, Ok, OnOk, nat_le, slice_get, slice_index, slice_range};
+ghost use Rattle.std.specs.Int.{IsInRange};
+ghost use Rattle.std.specs.Str.{IsCharBoundary};
+ghost use Rattle.lines.specs.Cursors.{Onward, passed};
 
 use crate::cursor::Cursor;
 use crate::stop::Bad;
 use std::str::FromStr;
 
-// What a byte of a word may be.
-#[derive(Clone, Copy)]
-enum Class {
-    Digit,
-    Letter,
-    NotBlank,
-}
-
-fn belongs(class: Class, byte: u8) -> bool {
-    match class {
-        Class::Digit => byte.is_ascii_digit(),
-        Class::Letter => byte.is_ascii_lowercase(),
-        Class::NotBlank => byte != b' ',
-    }
-}
-
-// The end of the bytes of a class that begin at a place.
-fn run_end(text: &[u8], from: usize, class: Class) -> usize
-    requires { from ≤ length text.now }
-    ensures { (from ≤ result) × (result ≤ length text.now) }
+// Where the first byte from a place on stands that fails a test, or the end.
+fn run_end<F: Fn(u8) -> bool>(text: &[u8], from: usize, passes: F) -> usize
+    requires within { from ≤ length text.now }
+    requires callable { F.IsAlwaysCallable passes }
+    ensures within { (from ≤ result) × (result ≤ length text.now) }
+    ensures stops { result < length text.now → F.post passes (slice_index text.now result) false }
+    ensures each { (k : ℕ) → from + k < result → F.post passes (slice_index text.now (from + k)) true }
 {
-    let mut end = from;
-    while end < text.len() && belongs(class, text[end]) {
-        end += 1;
-    }
-    end
+    text[from..]
+        .iter()
+        .position(|b| !passes(*b))
+        .map_or(text.len(), |n| from + n)
 }
 
 // The end of the number that begins at a place: a minus sign, then digits.
@@ -39,16 +27,19 @@ fn number_end(text: &[u8], from: usize) -> usize
     requires { from ≤ length text.now }
     ensures { (from ≤ result) × (result ≤ length text.now) }
 {
-    if from < text.len() && text[from] == b'-' {
-        return run_end(text, from + 1, Class::Digit);
-    }
-    run_end(text, from, Class::Digit)
+    let digits = if text.get(from) == Some(&b'-') {
+        from + 1
+    } else {
+        from
+    };
+    run_end(text, digits, |b| b.is_ascii_digit())
 }
 
 impl<'a> Cursor<'a> {
     // At the beginning of a line.
     pub fn new(text: &'a str) -> Cursor<'a>
-        ensures { result.at ≡ 0 }
+        ensures text { result.text.now ≡ text.now }
+        ensures at { result.at ≡ 0 }
     {
         Cursor { text, at: 0 }
     }
@@ -77,7 +68,7 @@ impl<'a> Cursor<'a> {
 
     // The next byte.
     pub fn peek(&self) -> Option<u8>
-        ensures { MatchOption result (length self.now.text.now ≤ self.now.at) (λ b. b ≡ slice_index self.now.text.now self.now.at) }
+        ensures { result ≡ slice_get self.now.text.now self.now.at }
     {
         self.text.as_bytes().get(self.at).copied()
     }
@@ -86,10 +77,10 @@ impl<'a> Cursor<'a> {
     pub fn take(&mut self, byte: u8) -> bool
         ensures step { self.new.at ≡ (if result then self.old.at + 1 else self.old.at) }
         ensures found { T result → slice_index self.old.text.now self.old.at ≡ byte }
+        ensures text { T result → passed self.old self.new ≡ byte ∷ [] }
         ensures onward { Onward self.old self.new }
     {
-        let text = self.text.as_bytes();
-        if self.at < text.len() && text[self.at] == byte {
+        if self.peek() == Some(byte) {
             self.at += 1;
             return true;
         }
@@ -99,6 +90,7 @@ impl<'a> Cursor<'a> {
     // Passes over a byte that has to come.
     pub fn expect(&mut self, byte: u8) -> Result<(), Bad>
         ensures found { OnOk result ((slice_index self.old.text.now self.old.at ≡ byte) × (self.new.at ≡ self.old.at + 1)) }
+        ensures text { OnOk result (passed self.old self.new ≡ byte ∷ []) }
         ensures onward { Onward self.old self.new }
     {
         if self.take(byte) {
@@ -111,39 +103,48 @@ impl<'a> Cursor<'a> {
     pub fn number<N: FromStr>(&mut self) -> Result<N, Bad>
     where
         N::Err: Drop,
-        ensures reads { IfOk result (λ n. N.FromStr.from_str_gives (slice_range self.old.text.now self.old.at self.new.at) (Ok n)) }
+        ensures reads { IfOk result (λ n. N.FromStr.from_str_gives (passed self.old self.new) (Ok n)) }
         ensures onward { Onward self.old self.new }
     {
-        let text = self.text;
-        let end = number_end(text.as_bytes(), self.at);
-        let Some(digits) = text.get(self.at..end) else {
-            return Err(self.bad());
-        };
-        let Ok(n) = digits.parse::<N>() else {
-            return Err(self.bad());
-        };
+        let start = self.bad();
+        let end = number_end(self.text.as_bytes(), self.at);
+        let digits = self.text.get(self.at..end).ok_or(start)?;
+        let n = digits.parse::<N>().map_err(|_| start)?;
         self.at = end;
         Ok(n)
     }
 
+    // The text up to the first byte that fails a test.
+    fn run<F: Fn(u8) -> bool>(&mut self, passes: F) -> &'a str
+        requires { F.IsAlwaysCallable passes }
+        ensures stops { self.new.at < length self.old.text.now → F.post passes (slice_index self.old.text.now self.new.at) false }
+        ensures each { (k : ℕ) → self.old.at + k < self.new.at → F.post passes (slice_index self.old.text.now (self.old.at + k)) true }
+        ensures text { IsCharBoundary self.old.text.now self.old.at → IsCharBoundary self.old.text.now self.new.at → result.now ≡ passed self.old self.new }
+        ensures onward { Onward self.old self.new }
+    {
+        let from = self.at;
+        self.at = run_end(self.text.as_bytes(), from, passes);
+        self.since(from)
+    }
+
     // A word of small letters.
     pub fn word(&mut self) -> &'a str
-        ensures { Onward self.old self.new }
+        ensures text { IsCharBoundary self.old.text.now self.old.at → IsCharBoundary self.old.text.now self.new.at → result.now ≡ passed self.old self.new }
+        ensures letters { (k : ℕ) → self.old.at + k < self.new.at → IsInRange 97 122 (slice_index self.old.text.now (self.old.at + k)) }
+        ensures stops { self.new.at < length self.old.text.now → ¬ (IsInRange 97 122 (slice_index self.old.text.now self.new.at)) }
+        ensures onward { Onward self.old self.new }
     {
-        let text = self.text;
-        let from = self.at;
-        self.at = run_end(text.as_bytes(), from, Class::Letter);
-        text.get(from..self.at).unwrap_or("")
+        self.run(|b| b.is_ascii_lowercase())
     }
 
     // What comes before the next blank.
     pub fn field(&mut self) -> &'a str
-        ensures { Onward self.old self.new }
+        ensures text { IsCharBoundary self.old.text.now self.old.at → result.now ≡ passed self.old self.new }
+        ensures filled { (k : ℕ) → self.old.at + k < self.new.at → slice_index self.old.text.now (self.old.at + k) ≢ 32 }
+        ensures stops { self.new.at < length self.old.text.now → slice_index self.old.text.now self.new.at ≡ 32 }
+        ensures onward { Onward self.old self.new }
     {
-        let text = self.text;
-        let from = self.at;
-        self.at = run_end(text.as_bytes(), from, Class::NotBlank);
-        text.get(from..self.at).unwrap_or("")
+        self.run(|b| b != b' ')
     }
 
     // Whether the line ends here.
@@ -164,7 +165,9 @@ impl<'a> Cursor<'a> {
     }
 
     // What was read since a place.
-    pub fn since(&self, from: usize) -> &'a str {
+    pub fn since(&self, from: usize) -> &'a str
+        ensures { IsCharBoundary self.now.text.now from → IsCharBoundary self.now.text.now self.now.at → result.now ≡ slice_range self.now.text.now from self.now.at }
+    {
         self.text.get(from..self.at).unwrap_or("")
     }
 }

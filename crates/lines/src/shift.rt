@@ -1,9 +1,14 @@
+ghost use Rattle.std.specs.Prelude.{◌≡◌};
+ghost use Rattle.lead_lag.specs.Shift.{making};
 ghost use Rattle.lines.specs.Cursors.{Onward};
 
 use crate::cursor::Cursor;
 use crate::stop::Bad;
 use crate::text::Text;
+use column::fault::Fault;
+use column::kind::Kind;
 use evaluator::utils::Argument;
+use lead_lag::WindowShift;
 use lead_lag::offset::WindowShiftKind;
 
 // LAG or LEAD with its arguments, before it is made.
@@ -16,6 +21,23 @@ pub struct Shift<K> {
     pub default: Option<K>,
 }
 
+impl<K: Kind> TryFrom<Shift<K>> for WindowShift<K> {
+    type Error = Fault;
+
+    ghost try_from_gives = { λ s r. r ≡ making s.kind s.offset s.reversed s.ignore_nulls s.default };
+
+    fn try_from(shift: Shift<K>) -> Result<WindowShift<K>, Fault> {
+        WindowShift::new(
+            shift.kind,
+            shift.offset,
+            shift.reversed,
+            shift.ignore_nulls,
+            shift.default,
+        )
+    }
+}
+
+// The function's type is another crate's, so `FromStr` cannot be given to it here.
 fn read_function(cursor: &mut Cursor<'_>) -> Result<WindowShiftKind, Bad>
     ensures { Onward cursor.old cursor.new }
 {

@@ -1,20 +1,37 @@
-ghost use Rattle.std.specs.Prelude.{◌≡◌, ℕ, List, IfOk, string_bytes};
-ghost use Rattle.lines.specs.Cursors.{Onward};
+ghost use Rattle.std.specs.Prelude.{ℕ, List, IfOk, Some};
+ghost use Rattle.std.specs.Fmt.{WritesOnOk};
+ghost use Rattle.lines.specs.Cursors.{Onward, passed};
 
 use crate::cursor::Cursor;
 use crate::stop::Bad;
 use column::kind::Kind;
-use std::alloc::{AllocError, Global};
+use std::fmt;
 
-// What a word of a line stands for.
+// What a word of a line stands for; `Shown` has its `Display`, which these types cannot be given here: they are std's or another crate's.
 pub trait Text: Copy {
     ghost text: { Self → List ℕ };
 
-    fn read(cursor: &mut Cursor<'_>) -> Result<Self, Bad>
-        ensures { Onward cursor.old cursor.new };
+    // Holds of a text and the value that it is read as.
+    ghost reads: { List ℕ → Self → Type 0 };
 
-    fn show(&self, heap: Global) -> Result<String, AllocError>
-        ensures { IfOk result (λ s. string_bytes s ≡ text self.now) };
+    fn read(cursor: &mut Cursor<'_>) -> Result<Self, Bad>
+        ensures reads { IfOk result (λ x. reads (passed cursor.old cursor.new) x) }
+        ensures onward { Onward cursor.old cursor.new };
+
+    fn write<W: fmt::Write>(&self, f: &mut fmt::Formatter<W>) -> fmt::Result
+        ensures { WritesOnOk W.Write.write_str_gives f.old result (text self.now) f.new };
+}
+
+// A value, printed as lines have it.
+#[derive(Clone, Copy)]
+pub struct Shown<T>(pub T);
+
+impl<T: Text> fmt::Display for Shown<T> {
+    ghost output = { λ x. Some (T.Text.text x.0) };
+
+    fn fmt<W: fmt::Write>(&self, f: &mut fmt::Formatter<W>) -> fmt::Result {
+        self.0.write(f)
+    }
 }
 
 // A kind of value that lines can hold.

@@ -1,22 +1,24 @@
+ghost use Rattle.lines.specs.Reads.{ReadsInstant, ReadsPseudonym, ReadsCode, ReadsOutcome, ReadsPair, ReadsCell, ReadsMark, ReadsSpan};
 ghost use Rattle.lines.specs.Texts.{instant_text, pseudonym_text, code_text, outcome_text, pair_text, cell_text, mark_text, span_text};
 
 use crate::cursor::Cursor;
 use crate::stop::Bad;
-use crate::text::{Text, Value};
+use crate::text::{Shown, Text, Value};
 use column::kind::{CollegeCode, Instant, LoginOutcome, Pair, Pseudonym};
-use std::alloc::{AllocError, Global};
+use std::fmt;
 
 // A decimal number.
 impl Text for Instant {
     ghost text = { instant_text };
 
+    ghost reads = { ReadsInstant };
+
     fn read(cursor: &mut Cursor<'_>) -> Result<Instant, Bad> {
         Ok(Instant(cursor.number::<i64>()?))
     }
 
-    fn show(&self, heap: Global) -> Result<String, AllocError> {
-        let n = self.0;
-        format!(in heap; "{n}")
+    fn write<W: fmt::Write>(&self, f: &mut fmt::Formatter<W>) -> fmt::Result {
+        write!(f, "{}", self.0)
     }
 }
 
@@ -30,6 +32,8 @@ impl Value for Instant {
 impl Text for Pseudonym {
     ghost text = { pseudonym_text };
 
+    ghost reads = { ReadsPseudonym };
+
     fn read(cursor: &mut Cursor<'_>) -> Result<Pseudonym, Bad> {
         let high = cursor.number::<u64>()?;
         cursor.expect(b':')?;
@@ -37,10 +41,8 @@ impl Text for Pseudonym {
         Ok(Pseudonym { high, low })
     }
 
-    fn show(&self, heap: Global) -> Result<String, AllocError> {
-        let high = self.high;
-        let low = self.low;
-        format!(in heap; "{high}:{low}")
+    fn write<W: fmt::Write>(&self, f: &mut fmt::Formatter<W>) -> fmt::Result {
+        write!(f, "{}:{}", self.high, self.low)
     }
 }
 
@@ -54,13 +56,14 @@ impl Value for Pseudonym {
 impl Text for CollegeCode {
     ghost text = { code_text };
 
+    ghost reads = { ReadsCode };
+
     fn read(cursor: &mut Cursor<'_>) -> Result<CollegeCode, Bad> {
         Ok(CollegeCode(cursor.number::<u64>()?))
     }
 
-    fn show(&self, heap: Global) -> Result<String, AllocError> {
-        let n = self.0;
-        format!(in heap; "{n}")
+    fn write<W: fmt::Write>(&self, f: &mut fmt::Formatter<W>) -> fmt::Result {
+        write!(f, "{}", self.0)
     }
 }
 
@@ -74,6 +77,8 @@ impl Value for CollegeCode {
 impl Text for LoginOutcome {
     ghost text = { outcome_text };
 
+    ghost reads = { ReadsOutcome };
+
     fn read(cursor: &mut Cursor<'_>) -> Result<LoginOutcome, Bad> {
         if cursor.take(b'g') {
             return Ok(LoginOutcome::Granted);
@@ -85,11 +90,11 @@ impl Text for LoginOutcome {
         Ok(LoginOutcome::Refused(cursor.number::<u16>()?))
     }
 
-    fn show(&self, heap: Global) -> Result<String, AllocError> {
+    fn write<W: fmt::Write>(&self, f: &mut fmt::Formatter<W>) -> fmt::Result {
         match *self {
-            LoginOutcome::Granted => String::from_str(heap, "g"),
-            LoginOutcome::Refused(reason) => format!(in heap; "r{reason}"),
-            LoginOutcome::TimedOut => String::from_str(heap, "t"),
+            LoginOutcome::Granted => f.write_str("g"),
+            LoginOutcome::Refused(reason) => write!(f, "r{reason}"),
+            LoginOutcome::TimedOut => f.write_str("t"),
         }
     }
 }
@@ -104,6 +109,8 @@ impl Value for LoginOutcome {
 impl<A: Text, B: Text> Text for Pair<A, B> {
     ghost text = { pair_text A.Text.text B.Text.text };
 
+    ghost reads = { ReadsPair A.Text.reads B.Text.reads };
+
     fn read(cursor: &mut Cursor<'_>) -> Result<Pair<A, B>, Bad> {
         cursor.expect(b'<')?;
         let first = A::read(cursor)?;
@@ -113,10 +120,8 @@ impl<A: Text, B: Text> Text for Pair<A, B> {
         Ok(Pair { first, second })
     }
 
-    fn show(&self, heap: Global) -> Result<String, AllocError> {
-        let first = self.first.show(heap)?;
-        let second = self.second.show(heap)?;
-        format!(in heap; "<{first};{second}>")
+    fn write<W: fmt::Write>(&self, f: &mut fmt::Formatter<W>) -> fmt::Result {
+        write!(f, "<{};{}>", Shown(self.first), Shown(self.second))
     }
 }
 
@@ -132,6 +137,8 @@ impl<A: Value, B: Value> Value for Pair<A, B> {
 impl<K: Text> Text for Option<K> {
     ghost text = { cell_text K.Text.text };
 
+    ghost reads = { ReadsCell K.Text.reads };
+
     fn read(cursor: &mut Cursor<'_>) -> Result<Option<K>, Bad> {
         if cursor.take(b'_') {
             return Ok(None);
@@ -139,10 +146,10 @@ impl<K: Text> Text for Option<K> {
         Ok(Some(K::read(cursor)?))
     }
 
-    fn show(&self, heap: Global) -> Result<String, AllocError> {
+    fn write<W: fmt::Write>(&self, f: &mut fmt::Formatter<W>) -> fmt::Result {
         match *self {
-            Some(value) => value.show(heap),
-            None => String::from_str(heap, "_"),
+            Some(value) => value.write(f),
+            None => f.write_str("_"),
         }
     }
 }
@@ -150,6 +157,8 @@ impl<K: Text> Text for Option<K> {
 // A mark: 1 present, 0 NULL.
 impl Text for bool {
     ghost text = { mark_text };
+
+    ghost reads = { ReadsMark };
 
     fn read(cursor: &mut Cursor<'_>) -> Result<bool, Bad> {
         if cursor.take(b'1') {
@@ -159,14 +168,16 @@ impl Text for bool {
         Ok(false)
     }
 
-    fn show(&self, heap: Global) -> Result<String, AllocError> {
-        String::from_str(heap, if *self { "1" } else { "0" })
+    fn write<W: fmt::Write>(&self, f: &mut fmt::Formatter<W>) -> fmt::Result {
+        f.write_str(if *self { "1" } else { "0" })
     }
 }
 
 // `S-E`: a frame or a group.
 impl Text for (usize, usize) {
     ghost text = { span_text };
+
+    ghost reads = { ReadsSpan };
 
     fn read(cursor: &mut Cursor<'_>) -> Result<(usize, usize), Bad> {
         let start = cursor.number::<usize>()?;
@@ -175,8 +186,7 @@ impl Text for (usize, usize) {
         Ok((start, end))
     }
 
-    fn show(&self, heap: Global) -> Result<String, AllocError> {
-        let (start, end) = *self;
-        format!(in heap; "{start}-{end}")
+    fn write<W: fmt::Write>(&self, f: &mut fmt::Formatter<W>) -> fmt::Result {
+        write!(f, "{}-{}", self.0, self.1)
     }
 }

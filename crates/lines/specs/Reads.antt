@@ -1,0 +1,49 @@
+-- The texts that are read as values.
+use Rattle.std.specs.Prelude.{◌≡◌, ℕ, ℤ, Bool, List, ◌++◌, Some, None, codes, Option}
+use Rattle.std.specs.Str.Parse.{IsNumeral, digits_value, signed_digits_value, without_leading_plus, without_leading_sign}
+use Rattle.column.specs.declared.kind.Instant.{Instant}
+use Rattle.column.specs.declared.kind.Pseudonym.{Pseudonym}
+use Rattle.column.specs.declared.kind.CollegeCode.{CollegeCode}
+use Rattle.column.specs.declared.kind.LoginOutcome.{LoginOutcome}
+use Rattle.column.specs.declared.kind.LoginOutcome.TheVariants.{Granted, Refused, TimedOut}
+use Rattle.column.specs.declared.kind.Pair.{Pair}
+use Rattle.lines.specs.Texts.{mark_text}
+
+-- decimal digits of the number
+abbrev pub ReadsUnsigned : List ℕ → ℕ → Type 0
+ReadsUnsigned bs n = IsNumeral 10 (without_leading_plus bs) × (n ≡ digits_value 10 (without_leading_plus bs))
+
+-- the same, with a sign before them
+abbrev pub ReadsSigned : List ℕ → ℤ → Type 0
+ReadsSigned bs n = IsNumeral 10 (without_leading_sign bs) × (n ≡ signed_digits_value 10 bs)
+
+abbrev pub ReadsInstant : List ℕ → Instant → Type 0
+ReadsInstant bs x = ReadsSigned bs x.0
+
+-- the high part, a colon and the low part
+abbrev pub ReadsPseudonym : List ℕ → Pseudonym → Type 0
+ReadsPseudonym bs x = (high : List ℕ) × (low : List ℕ) × (bs ≡ high ++ (codes ":" ++ low)) × ReadsUnsigned high x.high × ReadsUnsigned low x.low
+
+abbrev pub ReadsCode : List ℕ → CollegeCode → Type 0
+ReadsCode bs x = ReadsUnsigned bs x.0
+
+abbrev pub ReadsOutcome : List ℕ → LoginOutcome → Type 0
+ReadsOutcome bs Granted = bs ≡ codes "g"
+ReadsOutcome bs (Refused reason) = (digits : List ℕ) × (bs ≡ codes "r" ++ digits) × ReadsUnsigned digits reason
+ReadsOutcome bs TimedOut = bs ≡ codes "t"
+
+-- the two values, each as its kind reads it
+abbrev pub ReadsPair : {A B : Type 0} → (List ℕ → A → Type 0) → (List ℕ → B → Type 0) → List ℕ → Pair A B → Type 0
+ReadsPair ReadsFirst ReadsSecond bs x = (first : List ℕ) × (second : List ℕ) × (bs ≡ codes "<" ++ (first ++ (codes ";" ++ (second ++ codes ">")))) × ReadsFirst first x.first × ReadsSecond second x.second
+
+-- `_` for NULL, else a value
+abbrev pub ReadsCell : {V : Type 0} → (List ℕ → V → Type 0) → List ℕ → Option V → Type 0
+ReadsCell ReadsValue bs None = bs ≡ codes "_"
+ReadsCell ReadsValue bs (Some v) = ReadsValue bs v
+
+abbrev pub ReadsMark : List ℕ → Bool → Type 0
+ReadsMark bs mark = bs ≡ mark_text mark
+
+-- the start, a minus sign and the end
+abbrev pub ReadsSpan : List ℕ → ℕ × ℕ → Type 0
+ReadsSpan bs x = (start : List ℕ) × (end : List ℕ) × (bs ≡ start ++ (codes "-" ++ end)) × ReadsUnsigned start x.0 × ReadsUnsigned end x.1
