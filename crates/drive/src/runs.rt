@@ -11,7 +11,7 @@ use column::kind::Kind;
 use lead_lag::WindowShift;
 use lines::stop::Stop;
 use lines::text::{Shown, Text, Value};
-use replay::calls::{Call, Outcome};
+use replay::calls::{Call, Reply};
 use replay::replay::{Played, replay};
 use run::run::Run;
 use std::alloc::{AllocError, Global};
@@ -35,18 +35,18 @@ impl fmt::Display for Ending {
 
 // What a call ended in, printed as lines have it.
 #[derive(Clone, Copy)]
-struct Told<K>(Outcome<Option<K>>);
+struct Told<K>(Result<Reply<Option<K>>, Fault>);
 
 impl<K: Text> fmt::Display for Told<K> {
     ghost output = { λ x. Some (outcome_text K.Text.text x.0) };
 
     fn fmt<W: fmt::Write>(&self, f: &mut fmt::Formatter<W>) -> fmt::Result {
         match self.0 {
-            Outcome::Answer(cell) => write!(f, "ok:{}", Shown(cell)),
-            Outcome::Refused(fault) => write!(f, "{}", Refusal(fault)),
-            Outcome::Done => f.write_str("ok"),
-            Outcome::Mark(mark) => write!(f, "{mark}"),
-            Outcome::NotTaken => f.write_str("no:closed"),
+            Ok(Reply::Answer(cell)) => write!(f, "ok:{}", Shown(cell)),
+            Err(fault) => write!(f, "{}", Refusal(fault)),
+            Ok(Reply::Done) => f.write_str("ok"),
+            Ok(Reply::Mark(mark)) => write!(f, "{mark}"),
+            Ok(Reply::NotTaken) => f.write_str("no:closed"),
         }
     }
 }
