@@ -2,9 +2,9 @@
 ghost use Rattle.std.specs.Prelude.{◌≡◌, ◌<◌, true, false, map, length, IfOk, Some, vec_len, MatchResult};
 ghost use Rattle.std.specs.List.{join_with_byte};
 ghost use Rattle.std.specs.Str.Iter.{LacksByte};
-ghost use Rattle.sessions.specs.Reading.{Reads, Apart, IsRecord, FromHeader, Stripped, Lines, IsTable};
+ghost use Rattle.sessions.specs.Reading.{Reads, Apart, IsRecord, FromHeader, FromLine, Stripped, Lines, IsTable};
 ghost use Rattle.sessions.specs.Header.{Placed};
-ghost use Rattle.sessions.specs.Faults.{Holds, IsNoNumber, LineFault, HeaderRefused, Unread};
+ghost use Rattle.sessions.specs.Faults.{Holds, IsNoNumber, LineFault, LineRefused, HeaderRefused, Unread};
 
 use crate::columns::{Columns, EXPIRY, INSTANT, find_columns};
 use crate::problem::{Problem, Refusal};
@@ -69,10 +69,9 @@ fn is_quoted(line: &str) -> bool
 fn number<'a>(column: &'static str, text: &'a str) -> Result<Instant, Problem<'a>>
     ensures { MatchResult result (λ t. Reads text.now (Some t)) (IsNoNumber column.now text.now) }
 {
-    match text.parse::<i64>() {
-        Ok(n) => Ok(Instant(n)),
-        Err(_) => Err(Problem::NoNumber { column, text }),
-    }
+    text.parse()
+        .map(Instant)
+        .map_err(|_| Problem::NoNumber { column, text })
 }
 
 // A number, or NULL where the field is empty.
@@ -119,16 +118,25 @@ fn read_header<'a>(heap: Global, line: &'a str) -> Result<Columns, Refusal<'a>>
     ensures { MatchResult result (λ c. Placed c × FromHeader line.now c) (HeaderRefused line.now) }
 {
     if is_quoted(line) {
-        return Err(Refusal::At {
-            line: 1,
-            problem: Problem::Quote,
-        });
+        return Err(Problem::Quote.at(1));
     }
     let names = fields(heap, line)?;
-    match find_columns(names.as_slice()) {
-        Ok(columns) => Ok(columns),
-        Err(problem) => Err(Refusal::At { line: 1, problem }),
-    }
+    find_columns(names.as_slice()).map_err(|problem| problem.at(1))
+}
+
+// The record of a line, which is line n of the text.
+fn read_line<'a>(
+    heap: Global,
+    columns: &Columns,
+    line: &'a str,
+    n: usize,
+) -> Result<Record<'a>, Refusal<'a>>
+    requires { Placed columns.now }
+    ensures { MatchResult result (FromLine columns.now line.now) (LineRefused columns.now line.now n) }
+{
+    let line = without_return(line);
+    let fields = fields(heap, line)?;
+    read_record(columns, line, fields.as_slice()).map_err(|problem| problem.at(n))
 }
 
 // The header and the records of a text; the first line that is wrong refuses it.
@@ -137,24 +145,13 @@ pub(crate) fn read<'a>(heap: Global, text: &'a str) -> Result<Table<'a>, Refusal
 {
     let lines = lines(heap, text)?;
     if text.is_empty() {
-        return Err(Refusal::At {
-            line: 1,
-            problem: Problem::Empty,
-        });
+        return Err(Problem::Empty.at(1));
     }
     let header = without_return(lines[0]);
     let columns = read_header(heap, header)?;
     let mut records = Vec::new(heap);
-    for i in 1..lines.len() {
-        let line = without_return(lines[i]);
-        let fields = fields(heap, line)?;
-        match read_record(&columns, line, fields.as_slice()) {
-            Ok(record) => records.push(record)?,
-            Err(problem) => return Err(Refusal::At {
-                line: i + 1,
-                problem,
-            }),
-        }
+    for (i, line) in lines[1..].iter().enumerate() {
+        records.push(read_line(heap, &columns, line, i + 2)?)?;
     }
     Ok(Table { header, records })
 }
