@@ -1,8 +1,7 @@
 -- The records of sessions, and the last renewed expiry before each. Assumes nothing.
-use Rattle.std.specs.Prelude.{◌≡◌, ℕ, zero, suc, ◌+◌, ◌<◌, ◌≤◌, ◌≢◌, max, Bool, cond, List, [], ◌∷◌, ◌++◌, map, length, take, Some, None, vec_items, Option, Vec, ◌==◌, slice_index_or}
+use Rattle.std.specs.Prelude.{◌≡◌, ℕ, zero, suc, ◌+◌, ◌<◌, ◌≤◌, ◌≢◌, max, cond, List, [], ◌∷◌, ◌++◌, map, length, take, Some, None, vec_items, Option, Vec, ◌==◌, slice_index_or}
 use Rattle.std.specs.Str.{bytes_eq}
 use Rattle.column.specs.declared.kind.Instant.{Instant}
-use Rattle.column.specs.Cells.{cells}
 use Rattle.column.specs.Refusal.{row_limit}
 use Rattle.sessions.specs.declared.partitions.Place.{Place}
 use Rattle.sessions.specs.declared.problem.Unanswered.{Unanswered}
@@ -85,13 +84,7 @@ pub record Appended (old new : List (List Cell)) (n : ℕ) (c : Cell) : Type 0 w
   pub here : slice_index_or new n [] ≡ slice_index_or old n [] ++ (c ∷ [])
   pub others : (k : ℕ) → k ≢ n → slice_index_or new k [] ≡ slice_index_or old k []
 
--- cells as values with marks
-pub record Split (cs : List Cell) (values : List Instant) (marks : List Bool) : Type 0 where
-  pub joined : cells values marks ≡ cs
-  pub values_long : length values ≡ length cs
-  pub marks_long : length marks ≡ length cs
-
--- the same of the first n lists
+-- the answers of the first n lists
 pub record AllAnswered (ls : List (List Cell)) (n : ℕ) (answers : List (List Cell)) : Type 0 where
   pub all : length answers ≡ n
   pub each : (k : ℕ) → k < n → Answered (slice_index_or ls k []) (slice_index_or answers k [])
