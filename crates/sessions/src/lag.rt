@@ -1,8 +1,11 @@
 // LAG 1 ignoring NULLs over one session's cells, by the proved evaluator.
-ghost use Rattle.std.specs.Prelude.{◌≡◌, ◌≤◌, map, length, pos, is_some, unwrap_or, IfOk};
+ghost use Rattle.std.specs.Prelude.{◌≡◌, ◌≤◌, true, false, map, length, pos, is_some, unwrap_or, None, Ok, IfOk};
 ghost use Rattle.column.specs.Refusal.{row_limit};
 ghost use Rattle.std.specs.Bool.{then_some};
 ghost use Rattle.std.specs.List.{zip};
+ghost use Rattle.evaluator.specs.declared.utils.Argument.TheVariants.{Missing};
+ghost use Rattle.lead_lag.specs.declared.offset.WindowShiftKind.TheVariants.{Lag};
+ghost use Rattle.lead_lag.specs.Shift.{making};
 ghost use Rattle.sessions.specs.Sessions.{Answered};
 
 use crate::cells::Cells;
@@ -42,6 +45,13 @@ fn cells_of(heap: Global, values: &[Instant], marks: &[bool]) -> Result<Cells, A
         .collect(heap)
 }
 
+// LAG 1 ignoring NULLs, NULL by default.
+fn lag() -> WindowShift<Instant>
+    ensures { making Lag Missing false true None ≡ Ok result }
+{
+    WindowShift::new(WindowShiftKind::Lag, Argument::Missing, false, true, None).unwrap()
+}
+
 // The answer of each cell. A partition within the limit is not refused.
 pub(crate) fn answer_session(heap: Global, cells: &[Option<Instant>]) -> Result<Cells, AllocError>
     requires { length cells.now ≤ row_limit }
@@ -52,15 +62,8 @@ pub(crate) fn answer_session(heap: Global, cells: &[Option<Instant>]) -> Result<
     let mut answers = vec![in heap; Instant(0); cells.len()]?;
     let mut present = vec![in heap; false; cells.len()]?;
     let rows = WholePartition::new(values.as_slice(), marks.as_slice(), &[], &[]);
-    let shift = WindowShift::new(
-        WindowShiftKind::Lag,
-        Argument::Missing,
-        false,
-        true,
-        None,
-    ).unwrap();
     evaluate_cells(
-        &shift,
+        &lag(),
         &rows,
         answers.as_mut_slice(),
         present.as_mut_slice(),
