@@ -19,43 +19,30 @@ pub struct Table<'a> {
     pub records: Vec<Record<'a>>,
 }
 
-// The fields of a line.
-fn fields<'a>(heap: Global, line: &'a str) -> Result<Vec<&'a str>, AllocError>
-    ensures whole { IfOk result (λ v. line.now ≡ join_with_byte 44 (map (λ x. x.now) v.items)) }
-    ensures apart { IfOk result (λ v. Apart 44 v.items) }
-{
-    line.split(',').collect(heap)
-}
-
-// The pieces of a text between line ends.
-fn pieces<'a>(heap: Global, body: &'a str) -> Result<Vec<&'a str>, AllocError>
-    ensures whole { IfOk result (λ v. body.now ≡ join_with_byte 10 (map (λ x. x.now) v.items)) }
-    ensures apart { IfOk result (λ v. Apart 10 v.items) }
+// The pieces of a text between the places of an ASCII character.
+fn pieces<'a>(heap: Global, text: &'a str, mark: char) -> Result<Vec<&'a str>, AllocError>
+    requires { mark < 128 }
+    ensures whole { IfOk result (λ v. text.now ≡ join_with_byte mark (map (λ x. x.now) v.items)) }
+    ensures apart { IfOk result (λ v. Apart mark v.items) }
     ensures some { IfOk result (λ v. 0 < vec_len v) }
 {
-    body.split('\n').collect(heap)
+    text.split(mark).collect(heap)
 }
 
-// A line end at the end of a text is no line of its own.
-fn without_end(text: &str) -> &str
-    ensures { Stripped 10 text.now result.now }
+// A text without an ASCII character at its end, should it have one there.
+fn without_end(text: &str, mark: char) -> &str
+    requires { mark < 128 }
+    ensures { Stripped mark text.now result.now }
 {
-    text.strip_suffix('\n').unwrap_or(text)
+    text.strip_suffix(mark).unwrap_or(text)
 }
 
-// A line that ended in CRLF keeps its CR at the cut.
-fn without_return(line: &str) -> &str
-    ensures { Stripped 13 line.now result.now }
-{
-    line.strip_suffix('\r').unwrap_or(line)
-}
-
-// The lines of a text, without their ends.
+// The lines of a text. A line end at the end of the text is no line of its own.
 fn lines<'a>(heap: Global, text: &'a str) -> Result<Vec<&'a str>, AllocError>
     ensures lines { IfOk result (λ v. Lines text.now v.items) }
     ensures some { IfOk result (λ v. 0 < vec_len v) }
 {
-    pieces(heap, without_end(text))
+    pieces(heap, without_end(text, '\n'), '\n')
 }
 
 // Whether a line has a double quote.
@@ -120,7 +107,7 @@ fn read_header<'a>(heap: Global, line: &'a str) -> Result<Columns, Refusal<'a>>
     if is_quoted(line) {
         return Err(Problem::Quote.at(1));
     }
-    let names = fields(heap, line)?;
+    let names = pieces(heap, line, ',')?;
     find_columns(names.as_slice()).map_err(|problem| problem.at(1))
 }
 
@@ -134,8 +121,8 @@ fn read_line<'a>(
     requires { Placed columns.now }
     ensures { MatchResult result (FromLine columns.now line.now) (LineRefused columns.now line.now n) }
 {
-    let line = without_return(line);
-    let fields = fields(heap, line)?;
+    let line = without_end(line, '\r');
+    let fields = pieces(heap, line, ',')?;
     read_record(columns, line, fields.as_slice()).map_err(|problem| problem.at(n))
 }
 
@@ -147,7 +134,7 @@ pub(crate) fn read<'a>(heap: Global, text: &'a str) -> Result<Table<'a>, Refusal
     if text.is_empty() {
         return Err(Problem::Empty.at(1));
     }
-    let header = without_return(lines[0]);
+    let header = without_end(lines[0], '\r');
     let columns = read_header(heap, header)?;
     let mut records = Vec::new(heap);
     for (i, line) in lines[1..].iter().enumerate() {

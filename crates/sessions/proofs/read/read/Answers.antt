@@ -5,17 +5,11 @@ use Rattle.sessions.specs.Faults.{Unread}
 use Rattle.sessions.proofs.Lines.{none_read, one_read, all_read, unread}
 use Rattle.sessions.proofs.read.read.Goals as goal
 
-pub loop-i-init : goal.loop-i-init
-loop-i-init c = none_read _ _ _ c.new-records.ensures.items
-
 pub loop-i-preserved : goal.loop-i-preserved
 loop-i-preserved c = one_read _ _ c.loop-i.i _ _ _ _ c.loop-i.invariant c.loop-i-test.true c.in_ok-read_line.ensures c.in_ok-push.ensures.items
 
 pub returns : goal.returns
-returns c = all_read _ _ _ (vec_items c.in_ok-lines.lines) _ c.loop-i.i c.index.result.now _ c.in_ok-lines.ensures.lines (search rules) (ap (λ l. slice_range l 1 (length l)) c.deref.ensures.value) c.index.ensures c.without_return-header.ensures c.in_ok-columns.ensures.1 c.loop-i.invariant (search rules) (search rules)
-
-pub returns-then-is_empty : goal.returns-then-is_empty
-returns-then-is_empty c = subst (Unread c.args.text.now) (sym c.at.ensures) (inl (nil_from_length c.args.text.now (eqb-true (length c.args.text.now) 0 (sym c.if-is_empty.ensures)), refl, refl))
+returns c = all_read _ _ _ (vec_items c.in_ok-lines.lines) _ c.loop-i.i c.index.result.now _ c.in_ok-lines.ensures.lines (search rules) (ap (λ l. slice_range l 1 (length l)) c.deref.ensures.value) c.index.ensures c.without_end-header.ensures c.in_ok-columns.ensures.1 c.loop-i.invariant (search rules) (search rules)
 
 pub returns-in_err-read_line : goal.returns-in_err-read_line
-returns-in_err-read_line c = let x = unread _ _ _ (vec_items c.in_ok-lines.lines) _ c.loop-i.i c.index.result.now _ c.in_ok-lines.ensures.lines (search rules) (ap (λ l. slice_range l 1 (length l)) c.deref.ensures.value) c.index.ensures c.without_return-header.ensures c.in_ok-columns.ensures.1 c.loop-i.invariant _ _ c.loop-i-test.true c.in_err-read_line.ensures in search rules
+returns-in_err-read_line c = let x = unread _ _ _ (vec_items c.in_ok-lines.lines) _ c.loop-i.i c.index.result.now _ c.in_ok-lines.ensures.lines (search rules) (ap (λ l. slice_range l 1 (length l)) c.deref.ensures.value) c.index.ensures c.without_end-header.ensures c.in_ok-columns.ensures.1 c.loop-i.invariant _ _ c.loop-i-test.true c.in_err-read_line.ensures in search rules
