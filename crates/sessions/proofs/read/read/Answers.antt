@@ -1,8 +1,5 @@
-use Rattle.std.proofs.Common.{length, slice_range, vec_items, sym, refl, ap, inl, subst, rules}
-use Rattle.std.proofs.lemmas.List.{nil_from_length}
-use Rattle.std.proofs.lemmas.Bool.{eqb-true}
-use Rattle.sessions.specs.Faults.{Unread}
-use Rattle.sessions.proofs.Lines.{none_read, one_read, all_read, unread}
+use Rattle.std.proofs.Common.{length, slice_range, vec_items, ap, rules}
+use Rattle.sessions.proofs.Lines.{one_read, all_read, unread}
 use Rattle.sessions.proofs.read.read.Goals as goal
 
 pub loop-i-preserved : goal.loop-i-preserved
