@@ -5,6 +5,7 @@ use Rattle.std.specs.Str.{bytes_eq}
 use Rattle.std.specs.BTreeMap.{BTreeMap}
 use Rattle.std.specs.Borrow.{Bor}
 use Rattle.std.proofs.lemmas.List.{length-map, length_push, take_all, get_or_default, get_or_past}
+use Rattle.std.proofs.lemmas.Option.{same_Some, none-some}
 use Rattle.std.proofs.lemmas.Slice.Eq.{bytes_eq-Decides}
 use Rattle.std.proofs.lemmas.Bool.{cases_eq, ne_eqb}
 use Rattle.column.specs.Refusal.{row_limit}
@@ -35,12 +36,6 @@ pub record Grouping (rows : List Record) (f : List ℕ → Option ℕ) (i : ℕ)
   pub placed : (j : ℕ) (d : Place) → j < i → Placed rows f j (get_or places j d)
   pub bounded : Bounded ls
   pub count : length ls ≡ sessions_in rows i
-
-number_one : (m n : ℕ) → ◌≡◌ {A = Option ℕ} (Some m) (Some n) → m ≡ n
-number_one m n e = cc
-
-no_number : (n : ℕ) → ◌≡◌ {A = Option ℕ} None (Some n) → ⊥
-no_number n e = let z : ◌≡◌ {A = ℕ} 0 1 = cc in omega (arith, z)
 
 module _ (rows : List Record) (i : ℕ) (r : Record) (within : i < length rows) (here : r ≡ get_or rows i r)
     (f g : List ℕ → Option ℕ) (n : ℕ) (ls ls' : List (List Cell)) (places : List Place) (old : Grouping rows f i ls places)
@@ -96,11 +91,11 @@ module _ (rows : List Record) (i : ℕ) (r : Record) (within : i < length rows) 
         by (Some p) z = no_session v e (old.own v (session r) q h (z ∙ ap Some (sym (kept p z) ∙ sym same)))
 
     fresh_more : (v : List ℕ) (b : Bool) → bytes_eq (session r) v ≡ b → g v ≡ None → cells_of v (take (i + 1) rows) ≡ []
-    fresh_more v true e h = absurd (no_number n (sym h ∙ session_now v e))
+    fresh_more v true e h = absurd (none-some n (sym h ∙ session_now v e))
     fresh_more v false e h = stays v e ∙ old.fresh v (sym (other_now v e) ∙ h)
 
     listed_more : (v : List ℕ) (q : ℕ) (b : Bool) → bytes_eq (session r) v ≡ b → g v ≡ Some q → Listed rows (i + 1) ls' v q
-    listed_more v q true e h = subst (λ (w : List ℕ). Listed rows (i + 1) ls' w q) (sym (is_session v e)) (subst (Listed rows (i + 1) ls' (session r)) (number_one n q (sym (session_now v e) ∙ h)) (record {
+    listed_more v q true e h = subst (λ (w : List ℕ). Listed rows (i + 1) ls' w q) (sym (is_session v e)) (subst (Listed rows (i + 1) ls' (session r)) (same_Some n q (sym (session_now v e) ∙ h)) (record {
       within = omega (arith, more.count);
       some = omega (arith, ap length grown, length_push (cells_of (session r) (take i rows)) r.expiry);
       cells = list_grown;
@@ -116,8 +111,8 @@ module _ (rows : List Record) (i : ℕ) (r : Record) (within : i < length rows) 
 
     own_more : (v w : List ℕ) (q : ℕ) (a b : Bool) → bytes_eq (session r) v ≡ a → bytes_eq (session r) w ≡ b → g v ≡ Some q → g w ≡ Some q → v ≡ w
     own_more v w q true true d e h k = is_session v d ∙ sym (is_session w e)
-    own_more v w q true false d e h k = absurd (apart w q e (sym (other_now w e) ∙ k) (sym (number_one n q (sym (session_now v d) ∙ h))))
-    own_more v w q false true d e h k = absurd (apart v q d (sym (other_now v d) ∙ h) (sym (number_one n q (sym (session_now w e) ∙ k))))
+    own_more v w q true false d e h k = absurd (apart w q e (sym (other_now w e) ∙ k) (sym (same_Some n q (sym (session_now v d) ∙ h))))
+    own_more v w q false true d e h k = absurd (apart v q d (sym (other_now v d) ∙ h) (sym (same_Some n q (sym (session_now w e) ∙ k))))
     own_more v w q false false d e h k = old.own v w q (sym (other_now v d) ∙ h) (sym (other_now w e) ∙ k)
 
     -- a record before keeps its place
@@ -168,8 +163,8 @@ pub grouped_none : (rows : List Record) (f : List ℕ → Option ℕ) (ls : List
 grouped_none rows f ls places blank e p = record {
   all = ap length p;
   fresh = λ v h. refl;
-  listed = λ v n h. absurd (no_number n (sym (blank v) ∙ h));
-  own = λ v w n h k. absurd (no_number n (sym (blank v) ∙ h));
+  listed = λ v n h. absurd (none-some n (sym (blank v) ∙ h));
+  own = λ v w n h k. absurd (none-some n (sym (blank v) ∙ h));
   placed = λ j d h. absurd (omega (arith, h));
   bounded = λ k. subst (λ l. length (get_or l k []) ≤ row_limit) (sym e) (omega arith);
   count = ap length e;
