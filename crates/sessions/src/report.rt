@@ -18,6 +18,7 @@ fn count_nulls(cells: &[Option<Instant>]) -> usize
 }
 
 // How many records have no expiry.
+// (d) One function with `count_nulls` would take an iterator, with clauses on its runs.
 fn count_empty(records: &[Record<'_>]) -> usize
     ensures { result ≡ nulls (map expiry_of records.now) }
 {

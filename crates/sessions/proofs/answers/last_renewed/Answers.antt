@@ -5,7 +5,6 @@ use Rattle.sessions.proofs.Gathers.{lent_inside, lent_renewed}
 use Rattle.sessions.proofs.Grouping.{within_all}
 use Rattle.sessions.proofs.answers.last_renewed.Goals as goal
 
-
 pub gather-requires : goal.gather-requires
 gather-requires c = lent_inside c.in_ok-partitions.ensures.0 c.as_slice.ensures.value c.in_ok-answers.ensures c.as_slice-3.ensures.value c.as_slice-2.ensures.value
 

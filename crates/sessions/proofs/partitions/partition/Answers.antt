@@ -4,7 +4,6 @@ use Rattle.sessions.specs.Names.{number_in}
 use Rattle.sessions.proofs.Grouping.{grouped_none, grouped_turn, grouped_all, in_range}
 use Rattle.sessions.proofs.partitions.partition.Goals as goal
 
-
 pub loop-i-preserved : goal.loop-i-preserved
 loop-i-preserved c = grouped_turn c.loop-i.cells _ _ c.in_ok-session.session c.loop-i-test.true c.loop-i.invariant c.len.ensures c.in_ok-session.ensures c.in_ok-row.row c.append.new.all (vec_items c.push.new.self) c.in_ok-row.ensures.after c.in_ok-row.ensures.row (omega arith) c.in_ok-push.ensures.items
 
