@@ -5,10 +5,7 @@ use std::test::Fail;
 
 // The report of a text, or the message that refuses it.
 fn answer(heap: Global, text: &str) -> Result<String, AllocError> {
-    match report(heap, text) {
-        Ok(written) => Ok(written),
-        Err(refusal) => refusal.to_string(heap),
-    }
+    report(heap, text).or_else(|refusal| refusal.to_string(heap))
 }
 
 fn says(rt: &impl Abort, heap: Global, text: &str, want: &str) -> Result<(), Fail> {

@@ -1,7 +1,8 @@
 -- LAG 1 ignoring NULLs is the last present cell before a row. Assumes nothing.
-use Rattle.std.proofs.Common.{◌≡◌, ℕ, zero, suc, ◌+◌, ◌<◌, ◌≤◌, Bool, true, false, cond, List, [], ◌∷◌, ◌++◌, length, get_or, take, pos, is_some, Some, None, Ok, Err, Option, Result, unwrap_or, sym, refl, ap, ◌∙◌, subst, add-one, arith}
-use Rattle.std.specs.List.{slice_get}
-use Rattle.std.proofs.lemmas.List.{take_more, length_push, length-take}
+use Rattle.std.proofs.Common.{◌≡◌, ℕ, zero, suc, ◌<◌, ◌≤◌, Bool, true, false, cond, List, [], ◌∷◌, length, get_or, take, map, pos, is_some, Some, None, Ok, Err, Option, Result, unwrap_or, sym, refl, ap, ◌∙◌, subst, add-one, arith}
+use Rattle.std.specs.Bool.{then_some}
+use Rattle.std.specs.List.{slice_get, zip}
+use Rattle.std.proofs.lemmas.List.{take_more, length-map}
 use Rattle.column.specs.declared.kind.Instant.{Instant}
 use Rattle.column.specs.Cells.{cells}
 use Rattle.column.specs.Slots.{CellSlots, Filled}
@@ -14,7 +15,7 @@ use Rattle.lead_lag.specs.declared.offset.WindowShiftKind.TheVariants.{Lag}
 use Rattle.lead_lag.specs.Offset.{way_of}
 use Rattle.present.specs.Present.{at, before}
 use Rattle.lead_lag.specs.Shift.{taken, shifted, shift_meaning, making}
-use Rattle.sessions.specs.Sessions.{Cell, later, last_present, last_before, Split, Answered}
+use Rattle.sessions.specs.Sessions.{Cell, later, last_present, last_before, Answered}
 use Rattle.sessions.proofs.Present.{last_push}
 
 pub lag_is_last : (rows : List Cell) (i : ℕ) → i ≤ length rows → shifted (way_of (pos 1)) true None rows i ≡ last_before rows i
@@ -28,34 +29,21 @@ lag_is_last rows (suc i) h = step (at rows i) refl (lag_is_last rows i (omega ar
     step None e old = ap (λ d. taken (at rows) None (slice_get (cond (is_some d) (i ∷ before (at rows) i) (before (at rows) i)) 0)) e ∙ old ∙ sym (next ∙ ap (later (last_before rows i)) e)
     step (Some x) e old = ap (λ d. taken (at rows) None (slice_get (cond (is_some d) (i ∷ before (at rows) i) (before (at rows) i)) 0)) e ∙ e ∙ sym (next ∙ ap (later (last_before rows i)) e)
 
--- a cell more, as a value with a mark
-cells_push : {V : Type 0} (vs : List V) (ms : List Bool) (v : V) (m : Bool) → length ms ≡ length vs → cells (vs ++ (v ∷ [])) (ms ++ (m ∷ [])) ≡ cells vs ms ++ (cond m (Some v) None ∷ [])
-cells_push [] [] v true e = refl
-cells_push [] [] v false e = refl
-cells_push [] (n ∷ ms) v m e = absurd (omega arith)
-cells_push (w ∷ vs) [] v m e = absurd (omega arith)
-cells_push (w ∷ vs) (true ∷ ms) v m e = ap (λ l. Some w ∷ l) (cells_push vs ms v m (omega arith))
-cells_push (w ∷ vs) (false ∷ ms) v m e = ap (λ l. None ∷ l) (cells_push vs ms v m (omega arith))
-
 whole : (c : Cell) (d : Instant) → cond (is_some c) (Some (unwrap_or c d)) None ≡ c
 whole None d = refl
 whole (Some x) d = refl
 
-pub split_more : (cs : List Cell) (i : ℕ) (e : Cell) (d : Instant) (vs vs' : List Instant) (ms ms' : List Bool) (v : Instant) (m : Bool) → i < length cs → Split (take i cs) vs ms → v ≡ unwrap_or (get_or cs i e) d → m ≡ is_some (get_or cs i e) → vs' ≡ vs ++ (v ∷ []) → ms' ≡ ms ++ (m ∷ []) → Split (take (i + 1) cs) vs' ms'
-split_more cs i e d vs vs' ms ms' v m h old ve me vs_is ms_is = record {
-  joined = ap (λ l. cells l ms') vs_is ∙ ap (cells (vs ++ (v ∷ []))) ms_is ∙ cells_push vs ms v m (old.marks_long ∙ sym old.values_long) ∙ ap (λ l. l ++ (cond m (Some v) None ∷ [])) old.joined ∙ ap (λ c. take i cs ++ (c ∷ [])) (ap (λ b. cond b (Some v) None) me ∙ ap (λ w. cond (is_some (get_or cs i e)) (Some w) None) ve ∙ whole (get_or cs i e) d) ∙ sym (take_more cs i e h);
-  values_long = ap length vs_is ∙ length_push vs v ∙ ap (λ (n : ℕ). n + 1) old.values_long ∙ sym more;
-  marks_long = ap length ms_is ∙ length_push ms m ∙ ap (λ (n : ℕ). n + 1) old.marks_long ∙ sym more;
-}
-  where
-    more : length (take (i + 1) cs) ≡ length (take i cs) + 1
-    more = ap length (take_more cs i e h) ∙ length_push (take i cs) (get_or cs i e)
+pub joined_all : (cs : List Cell) (d : Instant) → cells (map (λ c. unwrap_or c d) cs) (map (λ c. is_some c) cs) ≡ cs
+joined_all [] d = refl
+joined_all (None ∷ cs) d = ap (λ l. None ∷ l) (joined_all cs d)
+joined_all (Some x ∷ cs) d = ap (λ l. Some x ∷ l) (joined_all cs d)
 
-pub cells_more : {V : Type 0} (vs : List V) (ms : List Bool) (i : ℕ) (d : V) (e : Bool) (c : Option V) (cs cs' : List (Option V)) → length ms ≡ length vs → i < length vs → cs ≡ cells (take i vs) (take i ms) → c ≡ cond (get_or ms i e) (Some (get_or vs i d)) None → cs' ≡ cs ++ (c ∷ []) → cs' ≡ cells (take (i + 1) vs) (take (i + 1) ms)
-cells_more vs ms i d e c cs cs' same h old here more =
-    more ∙ ap (λ l. l ++ (c ∷ [])) old ∙ ap (λ l. cells (take i vs) (take i ms) ++ (l ∷ [])) here
-    ∙ sym (cells_push (take i vs) (take i ms) (get_or vs i d) (get_or ms i e) (omega (arith, length-take i vs, length-take i ms)))
-    ∙ ap (λ l. cells l (take i ms ++ (get_or ms i e ∷ []))) (sym (take_more vs i d h)) ∙ ap (cells (take (i + 1) vs)) (sym (take_more ms i e (omega arith)))
+-- values beside marks, each pair a cell
+pub cells_zip : {V : Type 0} (vs : List V) (ms : List Bool) → map (λ (p : V × Bool). then_some p.1 p.0) (zip vs ms) ≡ cells vs ms
+cells_zip [] ms = refl
+cells_zip (v ∷ vs) [] = refl
+cells_zip (v ∷ vs) (true ∷ ms) = ap (λ l. Some v ∷ l) (cells_zip vs ms)
+cells_zip (v ∷ vs) (false ∷ ms) = ap (λ l. None ∷ l) (cells_zip vs ms)
 
 -- what the lists say at a row
 cell_at : {V : Type 0} (vs : List V) (ms : List Bool) (k : ℕ) (d : V) → length ms ≡ length vs → k < length vs → get_or (cells vs ms) k None ≡ cond (get_or ms k false) (Some (get_or vs k d)) None
@@ -116,6 +104,11 @@ answered_by vs us ws ms ks ns em eu ek h = record {
         ∙ ap (λ y. cond (is_some (last_before (cells vs ms) k)) (Some y) None) (h.values_at k d l)
         ∙ whole (last_before (cells vs ms) k) (get_or us k d)
 
--- the same of cells that were split
-pub answered_split : (cs : List Cell) (gv vs : List Instant) (gm ms : List Bool) (out : List Cell) → Split cs gv gm → vs ≡ gv → ms ≡ gm → Answered (cells vs ms) out → Answered cs out
-answered_split cs gv vs gm ms out given ev em h = subst (λ l. Answered l out) (ap (λ l. cells l ms) ev ∙ ap (cells gv) em ∙ given.joined) h
+-- cells as values and marks, through the evaluator, and back
+pub answered_cells : (cs : List Cell) (d : Instant) (vs us ws xs : List Instant) (ms ks ns bs : List Bool) (out : List Cell) → vs ≡ map (λ c. unwrap_or c d) cs → ms ≡ map (λ c. is_some c) cs → length us ≡ length cs → length ks ≡ length cs → Filled (last_before (cells vs ms)) (length vs) (record { values = us; marks = ks }) (record { values = ws; marks = ns }) → xs ≡ ws → bs ≡ ns → out ≡ map (λ (p : Instant × Bool). then_some p.1 p.0) (zip xs bs) → Answered cs out
+answered_cells cs d vs us ws xs ms ks ns bs out ev em eu ek h ew en is =
+    let values_long : length vs ≡ length cs = ap length ev ∙ length-map cs (λ c. unwrap_or c d) in
+    let marks_long : length ms ≡ length cs = ap length em ∙ length-map cs (λ c. is_some c) in
+    let joined : cells vs ms ≡ cs = ap (λ l. cells l ms) ev ∙ ap (cells (map (λ c. unwrap_or c d) cs)) em ∙ joined_all cs d in
+    let made : out ≡ cells ws ns = is ∙ cells_zip xs bs ∙ ap (λ l. cells l bs) ew ∙ ap (cells ws) en in
+    subst (λ l. Answered l out) joined (subst (Answered (cells vs ms)) (sym made) (answered_by vs us ws ms ks ns (marks_long ∙ sym values_long) (eu ∙ sym values_long) (ek ∙ sym values_long) h))

@@ -1,10 +1,9 @@
 mod Gathers
+mod Grouping
 mod Groups
 mod Headers
 mod Lags
 mod Lines
-mod Numbers
 mod Present
 mod Pushes
 mod Texts
-mod Firsts

@@ -83,6 +83,20 @@ abbrev pub HeaderRefused : List ℕ → Refusal → Type 0
 HeaderRefused line refusals.Memory = Unit {0}
 HeaderRefused line (refusals.At n p) = (n ≡ 1) × HeaderFault line p
 
+-- a line, perhaps with a CR at its end, that is no record
+pub record BadFields (c : Columns) (whole : List ℕ) (p : Problem) : Type 0 where
+  pub line : List ℕ
+  pub stripped : Stripped 13 whole line
+  pub fields : List (Bor (List ℕ))
+  pub cut : line ≡ join_with_byte 44 (map (λ f. f.now) fields)
+  pub apart : Apart 44 fields
+  pub fault : LineFault c line fields p
+
+-- a line n that is refused, by memory or for what is wrong with it
+abbrev pub LineRefused : Columns → List ℕ → ℕ → Refusal → Type 0
+LineRefused c whole n refusals.Memory = Unit {0}
+LineRefused c whole n (refusals.At m p) = (m ≡ n) × BadFields c whole p
+
 -- a text whose first line is no header
 pub record BadHeader (text : List ℕ) (p : Problem) : Type 0 where
   pub lines : List (Bor (List ℕ))

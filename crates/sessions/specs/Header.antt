@@ -23,6 +23,12 @@ pub record Column (names : List (Bor (List ℕ))) (name : List ℕ) (n k : ℕ) 
 abbrev pub Absent : List (Bor (List ℕ)) → List ℕ → ℕ → Type 0
 Absent names name n = (j : ℕ) (d : Bor (List ℕ)) → j < n → (slice_index_or names j d).now ≢ name
 
+-- column k is the first of the name
+pub record First (names : List (Bor (List ℕ))) (name : List ℕ) (k : ℕ) : Type 0 where
+  pub within : k < length names
+  pub named : (d : Bor (List ℕ)) → (slice_index_or names k d).now ≡ name
+  pub before : Absent names name k
+
 -- the columns of a header, each the one of its name
 pub record Header (names : List (Bor (List ℕ))) (c : Columns) : Type 0 where
   pub session : Column names (codes "session") (length names) c.session

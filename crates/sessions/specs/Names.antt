@@ -1,18 +1,18 @@
--- A map that gives each name a number of its own. Assumes nothing.
-use Rattle.std.specs.Prelude.{◌≡◌, ℕ, ◌<◌, List, Some, String}
-use Rattle.std.specs.BTreeMap.{BTreeMap}
-use Rattle.std.specs.BTreeMap.{IsOrdered, get_by_text, btree_map_len}
-use Rattle.std.specs.String.{string_cmp}
+-- A map that gives names their numbers. Assumes nothing.
+use Rattle.std.specs.Prelude.{◌≡◌, ℕ, List, Some, Option}
+use Rattle.std.specs.Borrow.{Bor}
+use Rattle.std.specs.BTreeMap.{BTreeMap, get_by}
+use Rattle.std.specs.Cmp.Lexicographic.{slice_cmp}
+use Rattle.std.specs.Map.{update}
+use Rattle.std.specs.Option.{unwrap_or}
+use Rattle.std.specs.Ordering.{nat_cmp}
+use Rattle.std.specs.Str.{bytes_eq}
 
-module _ {Y : Type 0} where
-  -- names in order, each with a number of its own below the number of names
-  pub record Names (m : BTreeMap (String Y) ℕ) : Type 0 where
-    pub ordered : IsOrdered string_cmp m
-    pub below : (v : List ℕ) (n : ℕ) → get_by_text m v ≡ Some n → n < btree_map_len m
-    pub own : (v w : List ℕ) (n : ℕ) → get_by_text m v ≡ Some n → get_by_text m w ≡ Some n → v ≡ w
+-- the number of a name, if the map has it
+abbrev pub number_in : BTreeMap (Bor (List ℕ)) ℕ → List ℕ → Option ℕ
+number_in m name = get_by (λ k. slice_cmp nat_cmp name k.now) m
 
-  -- n is the name's number, and each name keeps its number
-  pub record Named (old new : BTreeMap (String Y) ℕ) (name : List ℕ) (n : ℕ) : Type 0 where
-    pub names : Names new
-    pub here : get_by_text new name ≡ Some n
-    pub stays : (v : List ℕ) (k : ℕ) → get_by_text old v ≡ Some k → get_by_text new v ≡ Some k
+-- n is the name's number, the next one if it had none, and other names keep theirs
+pub record Numbered (old new : BTreeMap (Bor (List ℕ)) ℕ) (name : List ℕ) (next n : ℕ) : Type 0 where
+  pub number : n ≡ unwrap_or (number_in old name) next
+  pub names : (v : List ℕ) → number_in new v ≡ update bytes_eq (number_in old) name (Some n) v

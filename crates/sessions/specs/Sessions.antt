@@ -1,9 +1,9 @@
 -- The records of sessions, and the last renewed expiry before each. Assumes nothing.
-use Rattle.std.specs.Prelude.{◌≡◌, ℕ, zero, suc, ◌+◌, ◌<◌, ◌≤◌, Bool, cond, List, [], ◌∷◌, ◌++◌, map, length, take, Some, None, vec_items, Option, Vec, ◌==◌, slice_index, slice_index_or, slice_set}
+use Rattle.std.specs.Prelude.{◌≡◌, ℕ, zero, suc, ◌+◌, ◌<◌, ◌≤◌, ◌≢◌, max, cond, List, [], ◌∷◌, ◌++◌, map, length, take, Some, None, vec_items, Option, Vec, ◌==◌, slice_index_or}
 use Rattle.std.specs.Str.{bytes_eq}
 use Rattle.column.specs.declared.kind.Instant.{Instant}
-use Rattle.column.specs.Cells.{cells}
 use Rattle.column.specs.Refusal.{row_limit}
+use Rattle.sessions.specs.declared.partitions.Place.{Place}
 use Rattle.sessions.specs.declared.problem.Unanswered.{Unanswered}
 use Rattle.sessions.specs.declared.problem.Unanswered.TheVariants.{Memory, TooMany}
 use Rattle.sessions.specs.declared.record.Record.{Record}
@@ -43,33 +43,22 @@ last_before cs i = last_present (take i cs)
 abbrev pub last_expiry : List Record → ℕ → Cell
 last_expiry rows i = last_present (cells_of (session_at rows i) (take i rows))
 
--- records have one number where they are of one session, and numbers are below the count
-pub record Numbered (rows : List Record) (numbers : List ℕ) (count : ℕ) : Type 0 where
-  pub all : length numbers ≡ length rows
-  pub below : (i : ℕ) → i < length rows → slice_index numbers i < count
-  pub one : (i j : ℕ) → i < length rows → j < length rows → session_at rows i ≡ session_at rows j → slice_index numbers i ≡ slice_index numbers j
-  pub apart : (i j : ℕ) → i < length rows → j < length rows → slice_index numbers i ≡ slice_index numbers j → session_at rows i ≡ session_at rows j
-
 -- the lists in a list of lists
 abbrev pub lists : {Y Z : Type 0} → Vec (Vec Cell Y) Z → List (List Cell)
 lists v = map vec_items (vec_items v)
-
--- the first i records, each in its session's list, and their places there
-pub record Grouped (rows : List Record) (numbers : List ℕ) (i : ℕ) (ls : List (List Cell)) (places : List ℕ) : Type 0 where
-  pub all : length places ≡ i
-  pub wide : (j : ℕ) → j < length rows → slice_index numbers j < length ls
-  pub cells : (j : ℕ) → j < length rows → slice_index_or ls (slice_index numbers j) [] ≡ cells_of (session_at rows j) (take i rows)
-  pub placed : (j : ℕ) → j < i → slice_index places j ≡ length (cells_of (session_at rows j) (take j rows))
-
--- how many places are the first
-abbrev pub zeros : List ℕ → ℕ
-zeros [] = 0
-zeros (p ∷ ps) = cond (p == 0) 1 0 + zeros ps
 
 -- how many of the first n records are the first of their session: the number of sessions among them
 abbrev pub sessions_in : List Record → ℕ → ℕ
 sessions_in rows zero = 0
 sessions_in rows (suc n) = sessions_in rows n + cond (length (cells_of (session_at rows n) (take n rows)) == 0) 1 0
+
+-- a list for each session: that of a record's session has the session's cells, and its row is behind the records before it
+pub record Grouped (rows : List Record) (ls : List (List Cell)) (places : List Place) : Type 0 where
+  pub all : length places ≡ length rows
+  pub session : (i : ℕ) (d : Place) → i < length rows → (slice_index_or places i d).session < length ls
+  pub cells : (i : ℕ) (d : Place) → i < length rows → slice_index_or ls (slice_index_or places i d).session [] ≡ cells_of (session_at rows i) rows
+  pub row : (i : ℕ) (d : Place) → i < length rows → (slice_index_or places i d).row ≡ length (cells_of (session_at rows i) (take i rows))
+  pub sessions : length ls ≡ sessions_in rows (length rows)
 
 -- no list is longer than a partition may be
 abbrev pub Bounded : List (List Cell) → Type 0
@@ -89,31 +78,24 @@ pub record Answered (cs answers : List Cell) : Type 0 where
   pub all : length answers ≡ length cs
   pub each : (k : ℕ) → k < length cs → slice_index_or answers k None ≡ last_before cs k
 
--- a cell more at the end of a list
-abbrev pub appended : List (List Cell) → ℕ → Cell → List (List Cell)
-appended ls n c = slice_set ls n (slice_index_or ls n [] ++ (c ∷ []))
+-- a cell more at the end of list n, which is new if there are n lists; the other lists stay
+pub record Appended (old new : List (List Cell)) (n : ℕ) (c : Cell) : Type 0 where
+  pub count : length new ≡ max (length old) (n + 1)
+  pub here : slice_index_or new n [] ≡ slice_index_or old n [] ++ (c ∷ [])
+  pub others : (k : ℕ) → k ≢ n → slice_index_or new k [] ≡ slice_index_or old k []
 
--- cells as values with marks
-pub record Split (cs : List Cell) (values : List Instant) (marks : List Bool) : Type 0 where
-  pub joined : cells values marks ≡ cs
-  pub values_long : length values ≡ length cs
-  pub marks_long : length marks ≡ length cs
-
--- the same of the first n lists
+-- the answers of the first n lists
 pub record AllAnswered (ls : List (List Cell)) (n : ℕ) (answers : List (List Cell)) : Type 0 where
   pub all : length answers ≡ n
   pub each : (k : ℕ) → k < n → Answered (slice_index_or ls k []) (slice_index_or answers k [])
 
--- each number is that of a list, and each place is in it
-pub record Gathers (numbers places : List ℕ) (ls : List (List Cell)) : Type 0 where
-  pub all : length places ≡ length numbers
-  pub list : (i : ℕ) → i < length numbers → slice_index numbers i < length ls
-  pub place : (i : ℕ) → i < length numbers → slice_index places i < length (slice_index_or ls (slice_index numbers i) [])
+-- the place is in one of the lists
+abbrev pub Inside : List (List Cell) → Place → Type 0
+Inside ls p = (p.session < length ls) × (p.row < length (slice_index_or ls p.session []))
 
--- what stands at the first n of those places
-pub record Gathered (numbers places : List ℕ) (ls : List (List Cell)) (n : ℕ) (cells : List Cell) : Type 0 where
-  pub all : length cells ≡ n
-  pub each : (i : ℕ) → i < n → slice_index_or cells i None ≡ slice_index_or (slice_index_or ls (slice_index numbers i) []) (slice_index places i) None
+-- what stands at a place
+abbrev pub cell_at : List (List Cell) → Place → Cell
+cell_at ls p = slice_index_or (slice_index_or ls p.session []) p.row None
 
 -- the answer of each record is the last renewed expiry before it in its session
 pub record LastRenewed (rows : List Record) (answers : List Cell) : Type 0 where

@@ -1,15 +1,16 @@
 // The last renewed expiry before each record in its session.
-ghost use Rattle.std.specs.Prelude.{◌≡◌, map, length, IfOk, vec_items, MatchResult};
-ghost use Rattle.sessions.specs.Sessions.{AllAnswered, LastRenewed, lists, Gathers, Gathered, Bounded, Within, Overfull, zeros, sessions_in};
+ghost use Rattle.std.specs.Prelude.{◌≡◌, map, length, IfOk, vec_items, MatchResult, All};
+ghost use Rattle.sessions.specs.Sessions.{AllAnswered, LastRenewed, lists, Inside, cell_at, Bounded, Within, Overfull, sessions_in};
 
 use crate::cells::Cells;
 use crate::lag::answer_session;
-use crate::numbering::number_sessions;
-use crate::partitions::partition;
+use crate::partitions::{Place, partition};
 use crate::problem::Unanswered;
 use crate::record::Record;
+use column::kind::Instant;
 use std::alloc::{AllocError, Global};
 
+// (c) Over `try_collect` of a `map`, the check leaves `returns` open: what each call gave.
 fn answer_sessions(heap: Global, partitions: &[Cells]) -> Result<Vec<Cells>, AllocError>
     requires { Bounded (map vec_items partitions.now) }
     ensures { IfOk result (λ v. AllAnswered (map vec_items partitions.now) (length partitions.now) (lists v)) }
@@ -21,35 +22,23 @@ fn answer_sessions(heap: Global, partitions: &[Cells]) -> Result<Vec<Cells>, All
     Ok(answers)
 }
 
-// Each record's answer from its place in its session.
-fn gather(
-    heap: Global,
-    numbers: &[usize],
-    places: &[usize],
-    answers: &[Cells],
-) -> Result<Cells, AllocError>
-    requires { Gathers numbers.now places.now (map vec_items answers.now) }
-    ensures { IfOk result (λ v. Gathered numbers.now places.now (map vec_items answers.now) (length numbers.now) v.items) }
+// The cell at a place.
+fn cell_at(lists: &[Cells], place: Place) -> Option<Instant>
+    requires { Inside (map vec_items lists.now) place }
+    ensures { result ≡ cell_at (map vec_items lists.now) place }
 {
-    let mut gathered = Vec::new(heap);
-    for (i, number) in numbers.iter().enumerate() {
-        let session = answers[*number].as_slice();
-        gathered.push(session[places[i]])?;
-    }
-    Ok(gathered)
+    lists[place.session][place.row]
 }
 
-// How many records are the first of their session, by their places there.
-fn count_firsts(places: &[usize]) -> usize
-    ensures { result ≡ zeros places.now }
+// The answer at each record's place.
+fn gather(heap: Global, places: &[Place], answers: &[Cells]) -> Result<Cells, AllocError>
+    requires { All (Inside (map vec_items answers.now)) places.now }
+    ensures { IfOk result (λ v. v.items ≡ map (cell_at (map vec_items answers.now)) places.now) }
 {
-    let mut n = 0;
-    for place in places {
-        if *place == 0 {
-            n += 1;
-        }
-    }
-    n
+    places
+        .iter()
+        .map(|place| cell_at(answers, *place))
+        .collect(heap)
 }
 
 // The answer of each record, in file order, and how many sessions there are.
@@ -62,17 +51,11 @@ pub struct Answers {
 pub fn last_renewed(heap: Global, records: &[Record<'_>]) -> Result<Answers, Unanswered>
     ensures { MatchResult result (λ a. LastRenewed records.now a.cells.items × Within records.now × (a.sessions ≡ sessions_in records.now (length records.now))) (Overfull records.now) }
 {
-    let numbering = number_sessions(heap, records)?;
-    let partitions = partition(heap, records, &numbering)?;
+    let partitions = partition(heap, records)?;
     let answers = answer_sessions(heap, partitions.cells.as_slice())?;
-    let cells = gather(
-        heap,
-        numbering.numbers.as_slice(),
-        partitions.places.as_slice(),
-        answers.as_slice(),
-    )?;
+    let cells = gather(heap, partitions.places.as_slice(), answers.as_slice())?;
     Ok(Answers {
         cells,
-        sessions: count_firsts(partitions.places.as_slice()),
+        sessions: partitions.cells.len(),
     })
 }

@@ -1,5 +1,5 @@
-ghost use Rattle.std.specs.Prelude.{◌≡◌, ◌<◌, length, MatchResult};
-ghost use Rattle.sessions.specs.Header.{Placed, Column, Header};
+ghost use Rattle.std.specs.Prelude.{length, MatchOption, MatchResult};
+ghost use Rattle.sessions.specs.Header.{Placed, Absent, First, Column, Header};
 ghost use Rattle.sessions.specs.Faults.{NameFault, NamesFault};
 
 use crate::problem::Problem;
@@ -19,23 +19,22 @@ pub struct Columns {
     pub count: usize,
 }
 
+// The first column of a name.
+fn first_named(names: &[&str], name: &str) -> Option<usize>
+    ensures { MatchOption result (Absent names.now name.now (length names.now)) (First names.now name.now) }
+{
+    names.iter().position(|other| *other == name)
+}
+
 // The one column of a name.
 fn find_column<'a>(names: &[&'a str], name: &'static str) -> Result<usize, Problem<'a>>
     ensures { MatchResult result (Column names.now name.now (length names.now)) (NameFault names.now name.now) }
 {
-    let mut found = None;
-    for (i, other) in names.iter().enumerate() {
-        if *other == name {
-            if found.is_some() {
-                return Err(Problem::ColumnTwice(name));
-            }
-            found = Some(i);
-        }
+    let first = first_named(names, name).ok_or(Problem::NoColumn(name))?;
+    if first_named(&names[first + 1..], name).is_some() {
+        return Err(Problem::ColumnTwice(name));
     }
-    match found {
-        Some(i) => Ok(i),
-        None => Err(Problem::NoColumn(name)),
-    }
+    Ok(first)
 }
 
 pub(crate) fn find_columns<'a>(names: &[&'a str]) -> Result<Columns, Problem<'a>>

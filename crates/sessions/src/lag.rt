@@ -1,9 +1,12 @@
 // LAG 1 ignoring NULLs over one session's cells, by the proved evaluator.
-ghost use Rattle.std.specs.Prelude.{◌≡◌, ◌≤◌, length, IfOk, if◌then◌else◌, Some, None};
+ghost use Rattle.std.specs.Prelude.{◌≡◌, ◌≤◌, true, false, map, length, pos, is_some, unwrap_or, None, Ok, IfOk};
 ghost use Rattle.column.specs.Refusal.{row_limit};
-ghost use Rattle.column.specs.Cells.{cells};
-ghost use Rattle.column.specs.Slots.{Filled};
-ghost use Rattle.sessions.specs.Sessions.{Answered, Split, last_before};
+ghost use Rattle.std.specs.Bool.{then_some};
+ghost use Rattle.std.specs.List.{zip};
+ghost use Rattle.evaluator.specs.declared.utils.Argument.TheVariants.{Missing};
+ghost use Rattle.lead_lag.specs.declared.offset.WindowShiftKind.TheVariants.{Lag};
+ghost use Rattle.lead_lag.specs.Shift.{making};
+ghost use Rattle.sessions.specs.Sessions.{Answered};
 
 use crate::cells::Cells;
 use column::kind::Instant;
@@ -14,92 +17,57 @@ use lead_lag::offset::WindowShiftKind;
 use partition::whole::WholePartition;
 use std::alloc::{AllocError, Global};
 
-// Cells as values with marks, any value where the cell is NULL.
-#[derive(Drop)]
-struct Columns {
-    values: Vec<Instant>,
-    marks: Vec<bool>,
-}
-
-fn columns_of(heap: Global, cells: &[Option<Instant>]) -> Result<Columns, AllocError>
-    ensures { IfOk result (λ c. Split cells.now c.values.items c.marks.items) }
+// The values of cells, any value where the cell is NULL.
+fn values_of(heap: Global, cells: &[Option<Instant>]) -> Result<Vec<Instant>, AllocError>
+    ensures { IfOk result (λ v. v.items ≡ map (λ c. unwrap_or c (record { 0 = pos 0 })) cells.now) }
 {
-    let mut values = Vec::new(heap);
-    let mut marks = Vec::new(heap);
-    for cell in cells {
-        values.push(cell.unwrap_or(Instant(0)))?;
-        marks.push(cell.is_some())?;
-    }
-    Ok(Columns { values, marks })
+    cells
+        .iter()
+        .map(|cell| cell.unwrap_or(Instant(0)))
+        .collect(heap)
 }
 
-fn marked(value: Instant, mark: bool) -> Option<Instant>
-    ensures { result ≡ (if mark then Some value else None) }
+// Which cells are present.
+fn marks_of(heap: Global, cells: &[Option<Instant>]) -> Result<Vec<bool>, AllocError>
+    ensures { IfOk result (λ v. v.items ≡ map (λ c. is_some c) cells.now) }
 {
-    if mark { Some(value) } else { None }
+    cells.iter().map(|cell| cell.is_some()).collect(heap)
 }
 
+// The values that are marked as present, NULL for the others.
 fn cells_of(heap: Global, values: &[Instant], marks: &[bool]) -> Result<Cells, AllocError>
-    requires { length marks.now ≡ length values.now }
-    ensures { IfOk result (λ v. v.items ≡ cells values.now marks.now) }
+    ensures { IfOk result (λ v. v.items ≡ map (λ p. then_some p.1 p.0) (zip values.now marks.now)) }
 {
-    let mut all = Vec::new(heap);
-    for (i, value) in values.iter().enumerate() {
-        all.push(marked(*value, marks[i]))?;
-    }
-    Ok(all)
+    values
+        .iter()
+        .zip(marks)
+        .map(|(value, mark)| mark.then_some(*value))
+        .collect(heap)
 }
 
-// The answers in the lists that are lent. A partition within the limit is not refused.
-fn lag<'a>(values: &'a [Instant], marks: &'a [bool], answers: &mut [Instant], present: &mut [bool])
-    requires marks { length marks.now ≡ length values.now }
-    requires answers { length answers.old ≡ length values.now }
-    requires present { length present.old ≡ length values.now }
-    requires limit { length values.now ≤ row_limit }
-    ensures { Filled (last_before (cells values.entry.now marks.now)) (length values.entry.now) (record { values = answers.old; marks = present.old }) (record { values = answers.new; marks = present.new }) }
+// LAG 1 ignoring NULLs, NULL by default.
+fn lag() -> WindowShift<Instant>
+    ensures { making Lag Missing false true None ≡ Ok result }
 {
-    let rows = WholePartition::new(values, marks, &[], &[]);
-    match WindowShift::new(WindowShiftKind::Lag, Argument::Missing, false, true, None) {
-        Ok(shift) => match evaluate_cells(&shift, &rows, answers, present) {
-            Ok(()) => (),
-            Err(_) => unreachable(),
-        },
-        Err(_) => unreachable(),
-    }
+    WindowShift::new(WindowShiftKind::Lag, Argument::Missing, false, true, None).unwrap()
 }
 
-// The answers by way of lists that are lent.
-fn lag_cells<'a>(
-    heap: Global,
-    values: &'a [Instant],
-    marks: &'a [bool],
-    answers: &mut [Instant],
-    present: &mut [bool],
-) -> Result<Cells, AllocError>
-    requires marks { length marks.now ≡ length values.now }
-    requires answers { length answers.old ≡ length values.now }
-    requires present { length present.old ≡ length values.now }
-    requires limit { length values.now ≤ row_limit }
-    ensures { IfOk result (λ v. Answered (cells values.now marks.now) v.items) }
-{
-    lag(values, marks, answers, present);
-    cells_of(heap, answers, present)
-}
-
-// The answer of each cell.
+// The answer of each cell. A partition within the limit is not refused.
 pub(crate) fn answer_session(heap: Global, cells: &[Option<Instant>]) -> Result<Cells, AllocError>
     requires { length cells.now ≤ row_limit }
     ensures { IfOk result (λ v. Answered cells.now v.items) }
 {
-    let given = columns_of(heap, cells)?;
-    let mut answers = columns_of(heap, cells)?;
-    let values = answers.values.as_mut_slice();
-    let marks = answers.marks.as_mut_slice();
-    lag_cells(
-        heap,
-        given.values.as_slice(),
-        given.marks.as_slice(),
-        values,
-        marks,
+    let values = values_of(heap, cells)?;
+    let marks = marks_of(heap, cells)?;
+    let mut answers = vec![in heap; Instant(0); cells.len()]?;
+    let mut present = vec![in heap; false; cells.len()]?;
+    let rows = WholePartition::new(values.as_slice(), marks.as_slice(), &[], &[]);
+    evaluate_cells(
+        &lag(),
+        &rows,
+        answers.as_mut_slice(),
+        present.as_mut_slice(),
     )
+    .unwrap();
+    cells_of(heap, answers.as_slice(), present.as_slice())
 }

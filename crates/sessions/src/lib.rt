@@ -5,7 +5,6 @@ pub mod answers;
 mod cells;
 mod columns;
 mod lag;
-mod numbering;
 mod partitions;
 pub mod problem;
 mod read;

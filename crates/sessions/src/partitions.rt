@@ -1,60 +1,75 @@
 // One partition a session: the cells of its records in file order.
-ghost use Rattle.std.specs.Prelude.{◌≡◌, ◌<◌, [], length, replicate, IfOk, vec_len, MatchResult, OnOk, slice_index_or};
-ghost use Rattle.sessions.specs.Sessions.{Numbered, Grouped, lists, appended, Bounded, Overfull};
+ghost use Rattle.std.specs.Prelude.{◌≡◌, ◌≤◌, [], length, IfOk, vec_len, MatchResult, OnOk, slice_index_or};
+ghost use Rattle.sessions.specs.Names.{Numbered};
+ghost use Rattle.sessions.specs.Sessions.{Grouped, lists, Appended, Bounded, Overfull};
 
 use crate::cells::Cells;
-use crate::numbering::Numbering;
 use crate::problem::Unanswered;
 use crate::record::Record;
 use column::column::ROW_LIMIT;
 use column::kind::Instant;
 use std::alloc::{AllocError, Global};
+use std::collections::BTreeMap;
 
-// The partitions by session number, and the place of each record in its own.
+// Where a record stands: the number of its session, and its row among that session's records.
+#[derive(Clone, Copy)]
+pub struct Place {
+    pub session: usize,
+    pub row: usize,
+}
+
+// The partitions by session number, and the place of each record.
 #[derive(Drop)]
 pub struct Partitions {
     pub cells: Vec<Cells>,
-    pub places: Vec<usize>,
+    pub places: Vec<Place>,
 }
 
-fn empty_lists(heap: Global, count: usize) -> Result<Vec<Cells>, AllocError>
-    ensures { IfOk result (λ v. lists v ≡ replicate count []) }
+// The number of a name, the next one where the name is new.
+fn number_of<'a>(
+    numbers: &mut BTreeMap<&'a str, usize>,
+    name: &'a str,
+    next: usize,
+) -> Result<usize, AllocError>
+    ensures { IfOk result (Numbered numbers.old numbers.new name.now next) }
 {
-    let mut all = Vec::new(heap);
-    for _ in 0..count {
+    let number = numbers.entry(name)?.or_insert(next);
+    Ok(*number)
+}
+
+// Puts a cell behind those of its session, which is new where it is the next, and answers its row.
+fn append(
+    heap: Global,
+    all: &mut Vec<Cells>,
+    session: usize,
+    cell: Option<Instant>,
+) -> Result<usize, AllocError>
+    requires { session ≤ vec_len all.old }
+    ensures row { IfOk result (λ k. k ≡ length (slice_index_or (lists all.old) session [])) }
+    ensures after { OnOk result (Appended (lists all.old) (lists all.new) session cell) }
+{
+    if session == all.len() {
         all.push(Vec::new(heap))?;
     }
-    Ok(all)
-}
-
-// Puts a cell behind those of its session, and answers its place there.
-fn append(all: &mut Vec<Cells>, session: usize, cell: Option<Instant>) -> Result<usize, AllocError>
-    requires { session < vec_len all.old }
-    ensures place { IfOk result (λ k. k ≡ length (slice_index_or (lists all.old) session [])) }
-    ensures after { OnOk result (lists all.new ≡ appended (lists all.old) session cell) }
-{
     let cells = &mut all[session];
-    let place = cells.len();
+    let row = cells.len();
     cells.push(cell)?;
-    Ok(place)
+    Ok(row)
 }
 
-pub(crate) fn partition(
-    heap: Global,
-    records: &[Record<'_>],
-    numbering: &Numbering,
-) -> Result<Partitions, Unanswered>
-    requires { Numbered records.now numbering.now.numbers.items numbering.now.count }
-    ensures { MatchResult result (λ p. Grouped records.now numbering.now.numbers.items (length records.now) (lists p.cells) p.places.items × Bounded (lists p.cells)) (Overfull records.now) }
+pub(crate) fn partition<'a>(heap: Global, records: &[Record<'a>]) -> Result<Partitions, Unanswered>
+    ensures { MatchResult result (λ p. Grouped records.now (lists p.cells) p.places.items × Bounded (lists p.cells)) (Overfull records.now) }
 {
-    let mut cells = empty_lists(heap, numbering.count)?;
+    let mut numbers = BTreeMap::new(heap);
+    let mut cells = Vec::new(heap);
     let mut places = Vec::new(heap);
     for (i, record) in records.iter().enumerate() {
-        let place = append(&mut cells, numbering.numbers[i], record.expiry)?;
-        if place >= ROW_LIMIT {
+        let session = number_of(&mut numbers, record.session, cells.len())?;
+        let row = append(heap, &mut cells, session, record.expiry)?;
+        if row >= ROW_LIMIT {
             return Err(Unanswered::TooMany { record: i });
         }
-        places.push(place)?;
+        places.push(Place { session, row })?;
     }
     Ok(Partitions { cells, places })
 }

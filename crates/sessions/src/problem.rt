@@ -1,5 +1,5 @@
 ghost use Rattle.std.specs.Prelude.{◌≡◌};
-ghost use Rattle.sessions.specs.declared.problem.Refusal.TheVariants.{Memory as NoMemory};
+ghost use Rattle.sessions.specs.declared.problem.Refusal.TheVariants.{Memory as NoMemory, At};
 ghost use Rattle.sessions.specs.declared.problem.Unanswered.TheVariants.{Memory};
 
 use std::alloc::{AllocError, AllocFailed};
@@ -16,6 +16,18 @@ pub enum Problem<'a> {
     NoSession,
     NoNumber { column: &'static str, text: &'a str },
     TooManyRecords { session: &'a str },
+}
+
+impl<'a> Problem<'a> {
+    // The refusal of a text for what is wrong at a line of it.
+    pub(crate) fn at(self, line: usize) -> Refusal<'a>
+        ensures { result ≡ At line self.entry }
+    {
+        Refusal::At {
+            line,
+            problem: self,
+        }
+    }
 }
 
 // Why there are no answers: no memory, or the first record that its session has too many.
@@ -42,6 +54,7 @@ impl<T: Drop> From<AllocFailed<T>> for Unanswered {
 }
 
 // Why there is no report.
+// (d) One generic error for this and `Unanswered` would put each case in a struct of its own, here and in the contracts.
 #[derive(Clone, Copy)]
 pub enum Refusal<'a> {
     Memory,

@@ -2,9 +2,9 @@
 ghost use Rattle.std.specs.Prelude.{◌≡◌, ◌<◌, true, false, map, length, IfOk, Some, vec_len, MatchResult};
 ghost use Rattle.std.specs.List.{join_with_byte};
 ghost use Rattle.std.specs.Str.Iter.{LacksByte};
-ghost use Rattle.sessions.specs.Reading.{Reads, Apart, IsRecord, FromHeader, Stripped, Lines, IsTable};
+ghost use Rattle.sessions.specs.Reading.{Reads, Apart, IsRecord, FromHeader, FromLine, Stripped, Lines, IsTable};
 ghost use Rattle.sessions.specs.Header.{Placed};
-ghost use Rattle.sessions.specs.Faults.{Holds, IsNoNumber, LineFault, HeaderRefused, Unread};
+ghost use Rattle.sessions.specs.Faults.{Holds, IsNoNumber, LineFault, LineRefused, HeaderRefused, Unread};
 
 use crate::columns::{Columns, EXPIRY, INSTANT, find_columns};
 use crate::problem::{Problem, Refusal};
@@ -19,43 +19,30 @@ pub struct Table<'a> {
     pub records: Vec<Record<'a>>,
 }
 
-// The fields of a line.
-fn fields<'a>(heap: Global, line: &'a str) -> Result<Vec<&'a str>, AllocError>
-    ensures whole { IfOk result (λ v. line.now ≡ join_with_byte 44 (map (λ x. x.now) v.items)) }
-    ensures apart { IfOk result (λ v. Apart 44 v.items) }
-{
-    line.split(',').collect(heap)
-}
-
-// The pieces of a text between line ends.
-fn pieces<'a>(heap: Global, body: &'a str) -> Result<Vec<&'a str>, AllocError>
-    ensures whole { IfOk result (λ v. body.now ≡ join_with_byte 10 (map (λ x. x.now) v.items)) }
-    ensures apart { IfOk result (λ v. Apart 10 v.items) }
+// The pieces of a text between the places of an ASCII character.
+fn pieces<'a>(heap: Global, text: &'a str, mark: char) -> Result<Vec<&'a str>, AllocError>
+    requires { mark < 128 }
+    ensures whole { IfOk result (λ v. text.now ≡ join_with_byte mark (map (λ x. x.now) v.items)) }
+    ensures apart { IfOk result (λ v. Apart mark v.items) }
     ensures some { IfOk result (λ v. 0 < vec_len v) }
 {
-    body.split('\n').collect(heap)
+    text.split(mark).collect(heap)
 }
 
-// A line end at the end of a text is no line of its own.
-fn without_end(text: &str) -> &str
-    ensures { Stripped 10 text.now result.now }
+// A text without an ASCII character at its end, should it have one there.
+fn without_end(text: &str, mark: char) -> &str
+    requires { mark < 128 }
+    ensures { Stripped mark text.now result.now }
 {
-    text.strip_suffix('\n').unwrap_or(text)
+    text.strip_suffix(mark).unwrap_or(text)
 }
 
-// A line that ended in CRLF keeps its CR at the cut.
-fn without_return(line: &str) -> &str
-    ensures { Stripped 13 line.now result.now }
-{
-    line.strip_suffix('\r').unwrap_or(line)
-}
-
-// The lines of a text, without their ends.
+// The lines of a text. A line end at the end of the text is no line of its own.
 fn lines<'a>(heap: Global, text: &'a str) -> Result<Vec<&'a str>, AllocError>
     ensures lines { IfOk result (λ v. Lines text.now v.items) }
     ensures some { IfOk result (λ v. 0 < vec_len v) }
 {
-    pieces(heap, without_end(text))
+    pieces(heap, without_end(text, '\n'), '\n')
 }
 
 // Whether a line has a double quote.
@@ -69,10 +56,9 @@ fn is_quoted(line: &str) -> bool
 fn number<'a>(column: &'static str, text: &'a str) -> Result<Instant, Problem<'a>>
     ensures { MatchResult result (λ t. Reads text.now (Some t)) (IsNoNumber column.now text.now) }
 {
-    match text.parse::<i64>() {
-        Ok(n) => Ok(Instant(n)),
-        Err(_) => Err(Problem::NoNumber { column, text }),
-    }
+    text.parse()
+        .map(Instant)
+        .map_err(|_| Problem::NoNumber { column, text })
 }
 
 // A number, or NULL where the field is empty.
@@ -119,16 +105,25 @@ fn read_header<'a>(heap: Global, line: &'a str) -> Result<Columns, Refusal<'a>>
     ensures { MatchResult result (λ c. Placed c × FromHeader line.now c) (HeaderRefused line.now) }
 {
     if is_quoted(line) {
-        return Err(Refusal::At {
-            line: 1,
-            problem: Problem::Quote,
-        });
+        return Err(Problem::Quote.at(1));
     }
-    let names = fields(heap, line)?;
-    match find_columns(names.as_slice()) {
-        Ok(columns) => Ok(columns),
-        Err(problem) => Err(Refusal::At { line: 1, problem }),
-    }
+    let names = pieces(heap, line, ',')?;
+    find_columns(names.as_slice()).map_err(|problem| problem.at(1))
+}
+
+// The record of a line, which is line n of the text.
+fn read_line<'a>(
+    heap: Global,
+    columns: &Columns,
+    line: &'a str,
+    n: usize,
+) -> Result<Record<'a>, Refusal<'a>>
+    requires { Placed columns.now }
+    ensures { MatchResult result (FromLine columns.now line.now) (LineRefused columns.now line.now n) }
+{
+    let line = without_end(line, '\r');
+    let fields = pieces(heap, line, ',')?;
+    read_record(columns, line, fields.as_slice()).map_err(|problem| problem.at(n))
 }
 
 // The header and the records of a text; the first line that is wrong refuses it.
@@ -137,24 +132,13 @@ pub(crate) fn read<'a>(heap: Global, text: &'a str) -> Result<Table<'a>, Refusal
 {
     let lines = lines(heap, text)?;
     if text.is_empty() {
-        return Err(Refusal::At {
-            line: 1,
-            problem: Problem::Empty,
-        });
+        return Err(Problem::Empty.at(1));
     }
-    let header = without_return(lines[0]);
+    let header = without_end(lines[0], '\r');
     let columns = read_header(heap, header)?;
     let mut records = Vec::new(heap);
-    for i in 1..lines.len() {
-        let line = without_return(lines[i]);
-        let fields = fields(heap, line)?;
-        match read_record(&columns, line, fields.as_slice()) {
-            Ok(record) => records.push(record)?,
-            Err(problem) => return Err(Refusal::At {
-                line: i + 1,
-                problem,
-            }),
-        }
+    for (i, line) in lines[1..].iter().enumerate() {
+        records.push(read_line(heap, &columns, line, i + 2)?)?;
     }
     Ok(Table { header, records })
 }

@@ -14,13 +14,18 @@ use std::alloc::{AllocError, Global};
 fn count_nulls(cells: &[Option<Instant>]) -> usize
     ensures { result ≡ nulls cells.now }
 {
-    let mut n = 0;
-    for cell in cells {
-        if cell.is_none() {
-            n += 1;
-        }
-    }
-    n
+    cells.iter().filter(|cell| cell.is_none()).count()
+}
+
+// How many records have no expiry.
+// (d) One function with `count_nulls` would take an iterator, with clauses on its runs.
+fn count_empty(records: &[Record<'_>]) -> usize
+    ensures { result ≡ nulls (map expiry_of records.now) }
+{
+    records
+        .iter()
+        .filter(|record| record.expiry.is_none())
+        .count()
 }
 
 fn header(heap: Global, line: &str) -> Result<String, AllocError>
@@ -60,17 +65,6 @@ fn summary(
     )
 }
 
-// The expiries of the records.
-fn expiries(heap: Global, records: &[Record<'_>]) -> Result<Vec<Option<Instant>>, AllocError>
-    ensures { IfOk result (λ v. v.items ≡ map expiry_of records.now) }
-{
-    let mut cells = Vec::new(heap);
-    for record in records {
-        cells.push(record.expiry)?;
-    }
-    Ok(cells)
-}
-
 fn rows(
     heap: Global,
     records: &[Record<'_>],
@@ -80,23 +74,20 @@ fn rows(
     ensures { IfOk result (λ s. string_bytes s ≡ rows_text records.now answers.now) }
 {
     let mut text = String::new(heap);
-    for (i, record) in records.iter().enumerate() {
-        let line = row(heap, record.line, answers[i])?;
+    for (record, answer) in records.iter().zip(answers) {
+        let line = row(heap, record.line, *answer)?;
         text.push_str(line.as_str())?;
     }
     Ok(text)
 }
 
-// The refusal at a record; the header is line 1.
+// The refusal for a record; the header is line 1.
 fn too_many<'a>(records: &[Record<'a>], index: usize) -> Refusal<'a>
     requires { index < length records.now }
     ensures { FullAt records.now index result }
 {
     let session = records[index].session;
-    Refusal::At {
-        line: index + 2,
-        problem: Problem::TooManyRecords { session },
-    }
+    Problem::TooManyRecords { session }.at(index + 2)
 }
 
 // The whole report of a text.
@@ -105,6 +96,7 @@ pub fn report<'a>(heap: Global, text: &'a str) -> Result<String, Refusal<'a>>
 {
     let table = read(heap, text)?;
     let records = table.records.as_slice();
+    // (d) A closure for `map_err` would need clauses of its own, and be longer than this `match`.
     let answers = match last_renewed(heap, records) {
         Ok(answers) => answers,
         Err(Unanswered::Memory) => return Err(Refusal::Memory),
@@ -114,13 +106,11 @@ pub fn report<'a>(heap: Global, text: &'a str) -> Result<String, Refusal<'a>>
     let mut out = header(heap, table.header)?;
     let body = rows(heap, records, cells)?;
     out.push_str(body.as_str())?;
-    let expiries = expiries(heap, records)?;
-    let empty = count_nulls(expiries.as_slice());
     let end = summary(
         heap,
         answers.sessions,
         records.len(),
-        empty,
+        count_empty(records),
         count_nulls(cells),
     )?;
     out.push_str(end.as_str())?;

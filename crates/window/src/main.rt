@@ -42,8 +42,5 @@ fn main(rt: HostRuntime) -> io::Result<ExitCode> {
         eprintln!(rt; "usage: window [FILE]")?;
         return Ok(ExitCode::FAILURE);
     }
-    match first {
-        Some(name) => run(&rt, name.as_str()),
-        None => run(&rt, INPUT),
-    }
+    run(&rt, first.as_deref().unwrap_or(INPUT))
 }

@@ -1,7 +1,6 @@
 use Rattle.std.proofs.Common.{vec_items, subst}
 use Rattle.sessions.specs.Sessions.{Answered}
-use Rattle.sessions.proofs.Groups.{bounded_at}
-use Rattle.sessions.proofs.Gathers.{answered_more}
+use Rattle.sessions.proofs.Gathers.{answered_more, bounded_at}
 use Rattle.sessions.proofs.answers.answer_sessions.Goals as goal
 
 pub loop-cells-preserved : goal.loop-cells-preserved

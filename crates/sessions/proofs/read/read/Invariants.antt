@@ -3,4 +3,4 @@ use Rattle.sessions.proofs.Lines.{Read}
 use Rattle.sessions.proofs.read.read.Given as goal
 
 abbrev pub invariant-loop-i : goal.invariant-loop-i
-invariant-loop-i l = Read l.columns (vec_items l.lines) l.i (vec_items l.records)
+invariant-loop-i l = Read l.columns l.line-items l.i (vec_items l.records)

@@ -1,6 +1,8 @@
-use Rattle.std.proofs.Common.{◌≡◌, take, string_bytes}
+use Rattle.std.proofs.Common.{◌≡◌, ◌++◌, length, string_bytes}
 use Rattle.sessions.specs.Report.{rows_text}
 use Rattle.sessions.proofs.report.rows.Given as goal
 
-abbrev pub invariant-loop-i : goal.invariant-loop-i
-invariant-loop-i l = string_bytes l.text ≡ rows_text (take l.i l.records) (take l.i l.answers)
+abbrev pub invariant-loop-record : goal.invariant-loop-record
+invariant-loop-record l =
+    (string_bytes l.text ++ rows_text l.record-iterator.a.rest.now l.record-iterator.b.rest.now ≡ rows_text l.records l.answers)
+    × (length l.record-iterator.b.rest.now ≡ length l.record-iterator.a.rest.now)
