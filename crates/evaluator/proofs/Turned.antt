@@ -16,7 +16,7 @@ use Rattle.column.proofs.Columns.{column-says}
 use Rattle.column.proofs.Exits.{no_first, next}
 use Rattle.partition.proofs.Faults.{fault_none, fault_says}
 use Rattle.partition.proofs.Accepted.{whole_says}
-use Rattle.partition.proofs.Groups.{at_more, at_start}
+use Rattle.partition.proofs.Groups.{peers_some}
 
 cells_aux : {V : Type 0} (vs ws : List V) (ms ns : List Bool) → length vs ≡ length ms → cells (reverse_aux vs ws) (reverse_aux ms ns) ≡ reverse_aux (cells vs ms) (cells ws ns)
 cells_aux [] ws [] ns h = refl
@@ -93,7 +93,7 @@ turned-accepted same wf wg x size e =
     let q3 : groups_refusal y.groups ps ≡ None = own_groups x.groups ps _ in
     let af : absent y.frames ≡ absent x.frames = absent_by y.frames x.frames (length-map (reverse x.frames) (turned_frame n) ∙ length-reverse x.frames) in
     let q4 : absent_refusal (row_count y) (wf && absent y.frames) (wg && absent y.groups) ≡ None = ⊎_elim
-    (λ l. let long : length (cells (reverse x.values) (reverse x.marks)) ≡ length y.values = length-cells (reverse x.values) (reverse x.marks) (lv ∙ c.0 ∙ sym lm) in let ag : absent y.groups ≡ absent x.groups = absent-groups x.groups ps (at_more same (cells (reverse x.values) (reverse x.marks)) 0 0 (at_start same (cells (reverse x.values) (reverse x.marks))) (omega (arith, long, lv, l))) in rw (lv, af, ag) p4.0)
+    (λ l. let long : length (cells (reverse x.values) (reverse x.marks)) ≡ length y.values = length-cells (reverse x.values) (reverse x.marks) (lv ∙ c.0 ∙ sym lm) in let ag : absent y.groups ≡ absent x.groups = absent-groups x.groups ps (peers_some same (cells (reverse x.values) (reverse x.marks)) (omega (arith, long, lv, l))) in rw (lv, af, ag) p4.0)
     (λ l. let z : ltb 0 (row_count y) ≡ false = le-ltb 0 (row_count y) (omega (arith, lv, l)) in ap (λ (b : Bool). cond (b && ((wf && absent y.frames) || (wg && absent y.groups))) (Some (Absent 0)) None) z)
     (cases_lt 0 n) in
     let q5 : output_refusal (row_count y) size ≡ None = rw lv p4.1 in

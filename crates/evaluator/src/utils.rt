@@ -23,12 +23,9 @@ pub fn get_signed_integer(argument: Argument) -> Result<Option<i64>, Fault>
         Argument::Missing => Ok(None),
         Argument::Null => Ok(Some(0)),
         Argument::Signed(value) => Ok(Some(value)),
-        Argument::Unsigned(value) => {
-            if value > i64::MAX as u64 {
-                return Err(Fault::TooLarge(1));
-            }
-            Ok(Some(value as i64))
-        }
+        Argument::Unsigned(value) => i64::try_from(value)
+            .map(Some)
+            .map_err(|_| Fault::TooLarge(1)),
         Argument::NotInteger => Err(Fault::NotInteger(1)),
     }
 }

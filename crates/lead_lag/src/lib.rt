@@ -111,7 +111,7 @@ impl<K: Kind> Evaluator for WindowShift<K> {
         self.renewed(self.shift_offset)
     }
 
-    #[tactic(auto, using(crate::proofs::Calls::refused_call))]
+    #[tactic(auto, using(evaluator::proofs::Calls::refused_call))]
     fn evaluate_all<O: Output<Option<K>>>(
         &self,
         rows: &WholePartition<'_, K>,

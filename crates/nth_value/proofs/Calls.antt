@@ -106,8 +106,3 @@ handed_as mark w v f g k l ew ef ek h = subst (λ (x : Bool). Handed true mark v
 
 pub call_as : {V : Type 0} (e e' : NthValue V) (i j : ℕ) (w v : Window V) (f g : Frame) (k l : Bool) (r : Result (Option V) Fault) → j ≡ i → v ≡ w → g ≡ f → l ≡ k → RowCall nth_meaning true j v g l e e' r → RowCall nth_meaning true i w f k e e' r
 call_as e e' i j w v f g k l r ei ew ef ek c = subst (λ (x : Bool). RowCall nth_meaning true i w f x e e' r) ek (subst (λ (x : Frame). RowCall nth_meaning true i w x l e e' r) ef (subst (λ x. RowCall nth_meaning true i x g l e e' r) ew (subst (λ (x : ℕ). RowCall nth_meaning true x v g l e e' r) ei c)))
-
--- a refused call
-pub refused_call : {A S : Type 0} (stored : S → ℕ → A → S) (refusal : Option Fault) (answers : ℕ → A) (n : ℕ) (s : S) (r : Result (Unit {0}) Fault) → r ≡ passes refusal → is_err r ≡ true → WholeCall stored refusal answers n s s r
-refused_call stored None answers n s r e h = let z : ◌≡◌ {A = ℕ} 0 1 = cc in absurd (omega arith)
-refused_call stored (Some f) answers n s r e h = record { outcome = e; slots = refl }

@@ -135,7 +135,7 @@ impl<K: Kind> Evaluator for NthValue<K> {
         NthValue::new(self.kind, self.ignore_nulls)
     }
 
-    #[tactic(auto, using(crate::proofs::Calls::refused_call))]
+    #[tactic(auto, using(evaluator::proofs::Calls::refused_call))]
     fn evaluate_all<O: Output<Option<K>>>(
         &self,
         rows: &WholePartition<'_, K>,

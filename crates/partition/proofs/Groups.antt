@@ -36,43 +36,14 @@ module _ {V : Type 0} (same : V → V → Bool) where
       let rest : continued same (get_or cs s None) s (s + 1) (drop (s + 1) cs) ≡ (s, s + 1 + m) ∷ peers_from same (s + 1 + m) (drop m (drop (s + 1) cs)) = continued_run (drop (s + 1) cs) (get_or cs s None) s (s + 1) m (omega (arith, long, g.within)) same_at stop in
       first ∙ rest ∙ rw (drop-drop m (s + 1) cs, sum) refl
 
-  -- group k begins at row s
-  pub record At (cs : List (Option V)) (k s : ℕ) : Type 0 where
-    pub rest : drop k (peers same cs) ≡ peers_from same s (drop s cs)
-    pub inside : s ≤ length cs
-    pub count : k ≤ s
-    pub within : k ≤ length (peers same cs)
-
-  pub at_start : (cs : List (Option V)) → At cs 0 0
-  at_start cs = record { rest = refl; inside = omega arith; count = omega arith; within = omega arith }
-
-  cons_drop : (k : ℕ) (gs : List Group) (g : Group) (hs : List Group) → drop k gs ≡ g ∷ hs → (k < length gs) × (get_or gs k (0, 0) ≡ g) × (drop (k + 1) gs ≡ hs)
-  cons_drop k gs g hs e =
-      let lt : k < length gs = omega (arith, length-drop k gs, ap length e) in
-      let more : drop k gs ≡ get_or gs k (0, 0) ∷ drop (k + 1) gs = drop_more gs k (0, 0) lt in
-      (lt, cc, cc)
-
-  -- the group that begins there is the next of the list
-  pub at_group : (cs : List (Option V)) (k s e : ℕ) → At cs k s → IsGroup same cs s e → (k < length (peers same cs)) × (get_or (peers same cs) k (0, 0) ≡ (s, e)) × At cs (k + 1) e
-  at_group cs k s e a g =
-      let d = cons_drop k (peers same cs) (s, e) (peers_from same e (drop e cs)) (a.rest ∙ run cs s e g) in
-      (d.0, d.1, record { rest = d.2; inside = g.within; count = omega (arith, g.nonempty, a.count); within = omega (arith, d.0) })
-
-  -- past the last row there is none
-  pub at_end : (cs : List (Option V)) (k s : ℕ) → At cs k s → length cs ≤ s → length (peers same cs) ≡ k
-  at_end cs k s a h =
-      let e : drop k (peers same cs) ≡ [] = a.rest ∙ ap (peers_from same s) (drop_all s cs h) in
-      omega (arith, length-drop k (peers same cs), ap length e, a.within)
-
   continued_some : (l : List (Option V)) (c : Option V) (s j : ℕ) → 0 < length (continued same c s j l)
   continued_some [] c s j = omega arith
   continued_some (d ∷ ds) c s j = cond_both (same_cell same c d) (continued same c s (j + 1) ds) ((s, j) ∷ continued same d j (j + 1) ds) (λ gs. 0 < length gs) (λ y. continued_some ds c s (j + 1)) (λ n. omega arith)
 
-  -- before the last row there is another group
-  pub at_more : (cs : List (Option V)) (k s : ℕ) → At cs k s → s < length cs → k < length (peers same cs)
-  at_more cs k s a h =
-      let e : drop k (peers same cs) ≡ continued same (get_or cs s None) s (s + 1) (drop (s + 1) cs) = a.rest ∙ ap (peers_from same s) (drop_more cs s None h) in
-      omega (arith, length-drop k (peers same cs), ap length e, continued_some (drop (s + 1) cs) (get_or cs s None) s (s + 1))
+  -- where there is a row there is a group
+  pub peers_some : (cs : List (Option V)) → 0 < length cs → 0 < length (peers same cs)
+  peers_some [] h = absurd (omega arith)
+  peers_some (c ∷ cs) h = continued_some cs c 0 1
 
   continued_long : (l : List (Option V)) (c : Option V) (s j : ℕ) → length (continued same c s j l) ≤ length l + 1
   continued_long [] c s j = omega arith

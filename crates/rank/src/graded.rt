@@ -50,6 +50,7 @@ fn write_graded<G: Graded, O: Output<G::Grade>>(
 }
 
 // The call on a whole partition: the answers of a function that gives them by peer groups.
+#[tactic(auto, using(evaluator::proofs::Calls::refused_call))]
 pub(crate) fn evaluate_graded<G: Graded, K: Kind, O: Output<G::Grade>>(
     function: &G,
     rows: &WholePartition<'_, K>,

@@ -77,12 +77,13 @@ impl<K: Kind> Evaluator for RowNumber<K> {
         RowNumber::new()
     }
 
+    #[tactic(auto, using(evaluator::proofs::Calls::refused_call))]
     fn evaluate_all<O: Output<u64>>(
         &self,
         rows: &WholePartition<'_, K>,
         out: &mut O,
     ) -> Result<(), Fault> {
-        check_whole(rows, false, false, out.len())?;
+        check_whole(rows, Self::WANTS_FRAMES, Self::WANTS_GROUPS, out.len())?;
         write_numbers(rows.column.values.len(), out);
         Ok(())
     }
