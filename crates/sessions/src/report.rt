@@ -1,7 +1,7 @@
 // The text of the report: each line with its answer, and a summary.
 ghost use Rattle.std.specs.Prelude.{◌≡◌, ◌<◌, ◌≤◌, map, length, IfOk, string_bytes, MatchResult};
 ghost use Rattle.sessions.specs.Faults.{FullAt, Unreported};
-ghost use Rattle.sessions.specs.Report.{row_text, answered_text, rows_text, head_text, summary_text, nulls, expiry_of, Reported};
+ghost use Rattle.sessions.specs.Report.{row_text, rows_text, head_text, summary_text, nulls, expiry_of, Reported};
 
 use crate::answers::last_renewed;
 use crate::problem::{Problem, Refusal, Unanswered};
@@ -34,17 +34,11 @@ fn header(heap: Global, line: &str) -> Result<String, AllocError>
     format!(in heap; "{line},last_renewed_expiry\n")
 }
 
-fn answered(heap: Global, line: &str, t: i64) -> Result<String, AllocError>
-    ensures { IfOk result (λ s. string_bytes s ≡ answered_text line.now t) }
-{
-    format!(in heap; "{line},{t}\n")
-}
-
 fn row(heap: Global, line: &str, answer: Option<Instant>) -> Result<String, AllocError>
     ensures { IfOk result (λ s. string_bytes s ≡ row_text line.now answer) }
 {
     match answer {
-        Some(t) => answered(heap, line, t.0),
+        Some(Instant(t)) => format!(in heap; "{line},{t}\n"),
         None => format!(in heap; "{line},\n"),
     }
 }

@@ -1,6 +1,5 @@
-use Rattle.std.proofs.Common.{map, vec_items, sym, ◌∙◌, subst}
+use Rattle.std.proofs.Common.{vec_items, sym, ◌∙◌}
 use Rattle.std.proofs.lemmas.List.{length-map}
-use Rattle.sessions.specs.Sessions.{Bounded}
 use Rattle.sessions.proofs.Gathers.{lent_inside, lent_renewed}
 use Rattle.sessions.proofs.Grouping.{within_all}
 use Rattle.sessions.proofs.answers.last_renewed.Goals as goal

@@ -1,7 +1,7 @@
-use Rattle.std.proofs.Common.{ap, map, vec_items, arith}
+use Rattle.std.proofs.Common.{vec_items, arith}
 use Rattle.sessions.specs.Sessions.{lists}
 use Rattle.sessions.specs.Names.{number_in}
-use Rattle.sessions.proofs.Grouping.{grouped_none, grouped_turn, grouped_all, in_range}
+use Rattle.sessions.proofs.Grouping.{grouped_turn, grouped_all, in_range}
 use Rattle.sessions.proofs.partitions.partition.Goals as goal
 
 pub loop-i-preserved : goal.loop-i-preserved
