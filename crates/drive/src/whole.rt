@@ -64,7 +64,7 @@ fn is_writable(marks: &[bool], answers: usize, i: usize) -> bool
     i < answers && marks.get(i) == Some(&true)
 }
 
-// Whether the values that the call must not touch hold the pattern.
+// Whether the values that the call must not touch hold the pattern; a `zip` would pass over those behind the last mark.
 fn values_kept<K: Kind>(pattern: K, values: &[K], marks: &[bool], answers: usize) -> bool
     ensures { T result → ValuesKept K.Kind.same pattern values.now marks.now answers (length values.now) }
 {
