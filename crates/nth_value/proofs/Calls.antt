@@ -1,9 +1,8 @@
 -- What making fresh, a row call and settling give.
-use Rattle.std.proofs.Common.{◌≡◌, ℕ, ◌+◌, ◌<◌, ◌≤◌, Bool, true, false, ◌&&◌, ◌||◌, T, ltb, leb, length, get_or, take, Some, None, Ok, Err, Option, Result, sym, refl, ap, ◌∙◌, subst, inl, inr, ⊎_elim, arith}
+use Rattle.std.proofs.Common.{◌≡◌, ℕ, ◌+◌, ◌<◌, ◌≤◌, Bool, true, false, ◌&&◌, ◌||◌, T, ltb, leb, length, get_or, take, Some, None, Ok, Option, Result, sym, refl, ap, ◌∙◌, subst, inl, inr, ⊎_elim, arith}
 use Rattle.std.proofs.lemmas.Bool.{cases_lt, cases_Bool}
 use Rattle.std.proofs.lemmas.Bool.Decides.{nat_tests}
 use Rattle.column.specs.declared.fault.Fault.{Fault}
-use Rattle.column.specs.declared.fault.Fault.TheVariants.{TooEarly}
 use Rattle.column.specs.declared.column.Window.{Window}
 use Rattle.column.specs.Cells.{view}
 use Rattle.partition.specs.Table.{Frame}
@@ -12,7 +11,7 @@ use Rattle.column.specs.Refusal.{passes}
 use Rattle.std.specs.Result.{is_err}
 use Rattle.run.specs.Shown.{end_of, frame_at}
 use Rattle.run.specs.Rows.{Handed, Asks, RowCall, SettleCall}
-use Rattle.run.proofs.Seen.{seen_rows, seen_within, seen_frame, seen_view, hidden_view, given_ok, given_early}
+use Rattle.run.proofs.Seen.{seen_rows, seen_within, seen_frame, seen_view, hidden_view, given_ok}
 use Rattle.nth_value.specs.declared.kind.Pick.{Pick}
 use Rattle.nth_value.specs.declared.state.NthValueState.{NthValueState}
 use Rattle.nth_value.specs.declared.NthValue.{NthValue}
@@ -50,14 +49,6 @@ module _ {V : Type 0} (e : NthValue V) (i : ℕ) (w : Window V) (frame : Frame) 
       (λ lt. ap (λ (f : Frame). ltb i (end_of w) && (known || leb f.1 (end_of w))) (seen_frame (nth_meaning e) true e.state.mark i w frame known h p q tt lt) ∙ sym is)
       (λ ge. sym (is ∙ grind (arith, nat_tests)))
       (cases_lt i (end_of w))
-
-  pub too_early : s ≡ false → RowCall nth_meaning true i w frame known e e (Err (TooEarly i))
-  too_early n = record {
-    alike = alike e e.state;
-    mark = omega arith;
-    outcome = (refl, refl);
-    given = λ p q. given_early (nth_meaning e) (nth_meaning e) p i _ (settled_seen p q ∙ n);
-  }
 
   module _ (y : s ≡ true) where
     below : i < end_of w

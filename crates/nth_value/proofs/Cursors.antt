@@ -1,5 +1,5 @@
 -- What a cursor knows, one row on.
-use Rattle.std.proofs.Common.{◌≡◌, ℕ, zero, suc, ◌+◌, ◌-◌, ◌<◌, ◌≤◌, List, reverse, length, pos, negsuc, Option, sym, ap, ◌∙◌, subst, ⊎_elim, arith}
+use Rattle.std.proofs.Common.{◌≡◌, ℕ, ◌+◌, ◌-◌, ◌<◌, ◌≤◌, List, reverse, length, Option, sym, ap, ◌∙◌, subst, ⊎_elim, arith}
 use Rattle.std.proofs.lemmas.Bool.{cases_lt}
 use Rattle.std.specs.List.{slice_get}
 use Rattle.column.specs.declared.column.Window.{Window}
@@ -14,10 +14,8 @@ use Rattle.present.proofs.Counts.{number_of}
 use Rattle.present.proofs.Parts.{from_on, up_to, cut, behind-before, ahead_part}
 use Rattle.present.proofs.Counting.{counts_next, after_next, counted-source}
 use Rattle.nth_value.specs.declared.cursor.Reached.{Reached}
-use Rattle.nth_value.specs.declared.kind.NthValueKind.{NthValueKind}
-use Rattle.nth_value.specs.declared.kind.NthValueKind.TheVariants.{First, Last, Nth}
-use Rattle.nth_value.specs.Frames.{cell_of, pick_of}
-use Rattle.nth_value.specs.Cursors.{Proper, ShowsAll, Reaches}
+use Rattle.nth_value.specs.Frames.{cell_of}
+use Rattle.nth_value.specs.Cursors.{ShowsAll, Reaches}
 use Rattle.nth_value.specs.Local.{cell_same}
 
 -- the present rows as the window shows them are those of the rows
@@ -56,11 +54,3 @@ told_ahead w rows all n e a k = k ∙ ap (λ (xs : List ℕ). slice_get xs (a.m 
 -- the cell of the row found, as the window that shows a whole column gives it
 pub found_cell : {V : Type 0} (c : Column V) (row found : Option ℕ) (x : Option V) → row ≡ found → x ≡ cell_of (view (record { begin = 0; rows = c })) row → x ≡ cell_of (at (column_cells c)) found
 found_cell c row found x e q = q ∙ (cell_same (view (record { begin = 0; rows = c })) (at (column_cells c)) row (λ r h. view-all c r) ∙ ap (cell_of (at (column_cells c))) e)
-
--- what a function counts to is at least one row off
-pub pick_proper : (kind : NthValueKind) → Proper (pick_of kind)
-pick_proper First = omega arith
-pick_proper Last = omega arith
-pick_proper (Nth (pos zero)) = tt
-pick_proper (Nth (pos (suc n))) = omega arith
-pick_proper (Nth (negsuc n)) = omega arith

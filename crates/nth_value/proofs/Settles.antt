@@ -96,10 +96,6 @@ last_row : {V : Type 0} (p : Partition V) (i : ℕ) → 0 < (frame_before p i).1
 last_row p zero h = absurd (omega arith)
 last_row p (suc j) h = (j, refl, refl)
 
-before_zero : {V : Type 0} (p : Partition V) (i : ℕ) → FromZero p → (frame_before p i).0 ≡ 0
-before_zero p zero z = refl
-before_zero p (suc j) z = z j
-
 -- settling at row i, whose last frame this is
 module _ {V : Type 0} (h : NthValueState V) (p : Partition V) (i : ℕ) (z : FromZero p) where
   abbrev e : ℕ
