@@ -9,11 +9,11 @@ use Rattle.column.specs.declared.kind.LoginOutcome.TheVariants.{Granted, Refused
 use Rattle.column.specs.declared.kind.Pair.{Pair}
 use Rattle.lines.specs.Texts.{mark_text}
 
--- decimal digits, and the number that they make
+-- decimal digits, which a plus sign may precede, and the number that they make
 abbrev pub ReadsUnsigned : List ℕ → ℕ → Type 0
 ReadsUnsigned bs n = IsNumeral 10 (without_leading_plus bs) × (n ≡ digits_value 10 (without_leading_plus bs))
 
--- the same, where a minus sign may come first
+-- the same, where the sign may be a minus
 abbrev pub ReadsSigned : List ℕ → ℤ → Type 0
 ReadsSigned bs n = IsNumeral 10 (without_leading_sign bs) × (n ≡ signed_digits_value 10 bs)
 
