@@ -9,14 +9,15 @@ use Rattle.column.specs.declared.kind.LoginOutcome.TheVariants.{Granted, Refused
 use Rattle.column.specs.declared.kind.Pair.{Pair}
 use Rattle.lines.specs.Texts.{mark_text}
 
--- decimal digits of the number
+-- decimal digits, which a plus sign may precede, and the number that they make
 abbrev pub ReadsUnsigned : List ℕ → ℕ → Type 0
 ReadsUnsigned bs n = IsNumeral 10 (without_leading_plus bs) × (n ≡ digits_value 10 (without_leading_plus bs))
 
--- the same, with a sign before them
+-- the same, where the sign may be a minus
 abbrev pub ReadsSigned : List ℕ → ℤ → Type 0
 ReadsSigned bs n = IsNumeral 10 (without_leading_sign bs) × (n ≡ signed_digits_value 10 bs)
 
+-- a signed number
 abbrev pub ReadsInstant : List ℕ → Instant → Type 0
 ReadsInstant bs x = ReadsSigned bs x.0
 
@@ -24,15 +25,17 @@ ReadsInstant bs x = ReadsSigned bs x.0
 abbrev pub ReadsPseudonym : List ℕ → Pseudonym → Type 0
 ReadsPseudonym bs x = (high : List ℕ) × (low : List ℕ) × (bs ≡ high ++ (codes ":" ++ low)) × ReadsUnsigned high x.high × ReadsUnsigned low x.low
 
+-- an unsigned number
 abbrev pub ReadsCode : List ℕ → CollegeCode → Type 0
 ReadsCode bs x = ReadsUnsigned bs x.0
 
+-- a letter, and behind `r` the reason
 abbrev pub ReadsOutcome : List ℕ → LoginOutcome → Type 0
 ReadsOutcome bs Granted = bs ≡ codes "g"
 ReadsOutcome bs (Refused reason) = (digits : List ℕ) × (bs ≡ codes "r" ++ digits) × ReadsUnsigned digits reason
 ReadsOutcome bs TimedOut = bs ≡ codes "t"
 
--- the two values, each as its kind reads it
+-- `<`, a text of the first value, `;`, one of the second and `>`
 abbrev pub ReadsPair : {A B : Type 0} → (List ℕ → A → Type 0) → (List ℕ → B → Type 0) → List ℕ → Pair A B → Type 0
 ReadsPair ReadsFirst ReadsSecond bs x = (first : List ℕ) × (second : List ℕ) × (bs ≡ codes "<" ++ (first ++ (codes ";" ++ (second ++ codes ">")))) × ReadsFirst first x.first × ReadsSecond second x.second
 
@@ -41,6 +44,7 @@ abbrev pub ReadsCell : {V : Type 0} → (List ℕ → V → Type 0) → List ℕ
 ReadsCell ReadsValue bs None = bs ≡ codes "_"
 ReadsCell ReadsValue bs (Some v) = ReadsValue bs v
 
+-- the text that the mark is shown as
 abbrev pub ReadsMark : List ℕ → Bool → Type 0
 ReadsMark bs mark = bs ≡ mark_text mark
 
