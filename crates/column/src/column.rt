@@ -9,6 +9,7 @@ use crate::kind::Kind;
 pub const ROW_LIMIT: usize = 16_777_216;
 
 // Values, and marks that are true where a value is present; the value at a NULL row is never read.
+// Two lists, and not one of options, since callers lend them so.
 #[derive(Clone, Copy)]
 pub struct Column<'a, K> {
     pub values: &'a [K],

@@ -55,7 +55,7 @@ impl<'a, A: Copy> Output<A> for Numbers<'a, A> {
     }
 }
 
-// Lent lists of values and of marks that are true where a value is present.
+// Lent lists of values and of marks that are true where a value is present; two, since callers lend them so.
 #[derive(Drop)]
 pub struct Cells<'a, K> {
     pub values: &'a mut [K],

@@ -21,6 +21,7 @@ pub(crate) fn write_all<K: Kind, O: Output<Option<K>>>(
     column: &Column<'_, K>,
     out: &mut O,
 )
+    // what the call's check has told of the column and the output; a type that held it would be no equal of the column that the contract speaks of
     requires lengths { length column.now.values.now ≡ length column.now.marks.now }
     requires limited { length column.now.values.now ≤ row_limit }
     requires room { length column.now.values.now ≤ O.Output.size (O.Output.slots out.old) }
@@ -36,6 +37,7 @@ pub(crate) fn write_all<K: Kind, O: Output<Option<K>>>(
     if let Way::Ahead(m) = look.way
         && look.ignore_nulls
     {
+        // by row number, as an output is put to;
         // each present row is passed over once, where a scan for each row would pass it m times
         let mut source = present_ahead(&window, 1, n, m);
         'ahead: for i in 0..n {
@@ -45,6 +47,7 @@ pub(crate) fn write_all<K: Kind, O: Output<Option<K>>>(
         return;
     }
     let mut held = Held::START;
+    // by row number, as an output is put to
     'rows: for i in 0..n {
         out.put(
             i,

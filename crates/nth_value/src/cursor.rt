@@ -53,6 +53,7 @@ impl Reached {
         if start < self.start {
             return present_ahead(window, start, end, self.m);
         }
+        // by row number: a window is read by row
         for row in self.start..start {
             self.found = pass_ahead(window, self.found, row, n);
         }
@@ -75,6 +76,7 @@ fn find_behind<K: Kind>(
     if end < held.next {
         return present_behind(window, start, end, m);
     }
+    // by row number: a window is read by row
     for row in held.next..end {
         *held = count_row(m, *held, window, row);
     }

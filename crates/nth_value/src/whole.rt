@@ -20,6 +20,7 @@ pub(crate) fn write_all<K: Kind, O: Output<Option<K>>>(
     frames: &[(usize, usize)],
     out: &mut O,
 )
+    // what the call's check has told of the column, the frames and the output; a type that held it would be no equal of what the contract speaks of
     requires lengths { length column.now.values.now ≡ length column.now.marks.now }
     requires limited { length column.now.values.now ≤ row_limit }
     requires framed { length frames.now ≡ length column.now.values.now }

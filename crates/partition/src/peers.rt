@@ -32,6 +32,7 @@ fn group_end<K: Kind>(column: &Column<'_, K>, start: usize) -> usize
 {
     let first = column.cell(start);
     let n = column.values.len();
+    // by row number: no clause is inferred for a closure that reads the column, so `find` is longer
     for i in start + 1..n {
         if !same_cell(first, column.cell(i)) {
             return i;

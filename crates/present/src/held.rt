@@ -25,7 +25,7 @@ impl Held {
         oldest: 0,
     };
 
-    // Past a row that is not counted.
+    // Past a row that is not counted. The bound is of a number, asked where one is counted up; a type for such numbers would be opened at each use.
     pub fn passed(self, next: usize) -> Held
         requires { next < row_limit }
         ensures { result ≡ passed self next }

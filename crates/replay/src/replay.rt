@@ -8,6 +8,7 @@ use run::rows::RowEvaluator;
 use run::run::{Closed, Open, Run};
 use std::alloc::{AllocError, Global};
 
+// A call on an open run; apart from one on a closed run, since only here a close moves the run.
 fn act_open<E: RowEvaluator>(
     mut run: Open<E>,
     call: &Call<'_, E::Value>,
