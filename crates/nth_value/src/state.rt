@@ -3,7 +3,7 @@
 ghost use Rattle.std.specs.Prelude.{◌≡◌};
 ghost use Rattle.nth_value.specs.Settling.{start, answered, raised, fixed, settled_first, settled_nth, settled_by};
 
-use crate::kind::NthValueKind;
+use crate::kind::{NthValueKind, Pick};
 use column::kind::Kind;
 
 // The last answer, the answer that is fixed for all later rows, and the keep mark.
@@ -74,14 +74,11 @@ impl<K: Kind> NthValueState<K> {
     {
         let (start, end) = last;
         let rows = end.saturating_sub(start);
-        let m = n.unsigned_abs() as usize;
-        if n > 0 && rows >= m && given > m {
-            return self.fixed(end - 1);
+        match Pick::from(NthValueKind::Nth(n)) {
+            Pick::FromStart(m) if rows >= m && given > m => self.fixed(end - 1),
+            Pick::FromEnd(m) if rows >= m => self.raised(end - m),
+            _ => self,
         }
-        if n < 0 && rows >= m {
-            return self.raised(end - m);
-        }
-        self
     }
 
     // Settles what is known after so many answers, the last of them over this frame.

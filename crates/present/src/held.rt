@@ -10,6 +10,7 @@ use column::column::Window;
 use column::kind::Kind;
 
 // The next row; looking back with NULLs ignored also how many present rows are counted, and the oldest of them.
+// `m`, which calls take beside it, is no field: a shift keeps its offset, and would hold it twice.
 #[derive(Clone, Copy)]
 pub struct Held {
     pub next: usize,
