@@ -36,7 +36,7 @@ fn read_form(cursor: &mut Cursor<'_>) -> Result<Form, Bad> {
     Ok(form)
 }
 
-// The row limit that a run states is the one that it has.
+// The row limit that a run states is the one that it has. Apart from the length of a list: the two tests differ, and one function over both would be longer.
 fn read_limit(cursor: &mut Cursor<'_>) -> Result<(), Bad> {
     cursor.expect(b'L')?;
     let start = cursor.bad();
@@ -87,6 +87,7 @@ fn answer_at<K: Value>(heap: Global, text: &str) -> Result<String, Stop> {
     cursor.field();
     cursor.expect(b' ')?;
     let made = WindowShift::try_from(shift);
+    // by form: each has another rest of the line to read
     match form {
         Form::Whole => whole_line(heap, text, &mut cursor, made),
         Form::Mirror => whole_line(heap, text, &mut cursor, made.map(|shift| shift.mirror())),
@@ -100,6 +101,7 @@ fn answer(heap: Global, text: &str) -> Result<String, Stop> {
     read_form(&mut cursor)?;
     cursor.field();
     cursor.expect(b' ')?;
+    // by name: each chooses a type, which no table of functions could hold
     match read_kind(&mut cursor)? {
         KindName::Instant => answer_at::<Instant>(heap, text),
         KindName::Pseudonym => answer_at::<Pseudonym>(heap, text),

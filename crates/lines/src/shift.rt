@@ -49,6 +49,7 @@ fn read_function(cursor: &mut Cursor<'_>) -> Result<WindowShiftKind, Bad>
     }
 }
 
+// No `FromStr`: behind two of the words a number follows.
 fn read_argument(cursor: &mut Cursor<'_>) -> Result<Argument, Bad>
     ensures { Onward cursor.old cursor.new }
 {

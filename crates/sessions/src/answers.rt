@@ -10,7 +10,7 @@ use crate::record::Record;
 use column::kind::Instant;
 use std::alloc::{AllocError, Global};
 
-// (c) Over `try_collect` of a `map`, the check leaves `returns` open: what each call gave.
+// Over `try_collect` of a `map`, the check leaves `returns` open: what each call gave.
 fn answer_sessions(heap: Global, partitions: &[Cells]) -> Result<Vec<Cells>, AllocError>
     requires { Bounded (map vec_items partitions.now) }
     ensures { IfOk result (λ v. AllAnswered (map vec_items partitions.now) (length partitions.now) (lists v)) }

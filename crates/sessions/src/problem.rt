@@ -54,7 +54,7 @@ impl<T: Drop> From<AllocFailed<T>> for Unanswered {
 }
 
 // Why there is no report.
-// (d) One generic error for this and `Unanswered` would put each case in a struct of its own, here and in the contracts.
+// One generic error for this and `Unanswered` would put each case in a struct of its own, here and in the contracts.
 #[derive(Clone, Copy)]
 pub enum Refusal<'a> {
     Memory,

@@ -15,7 +15,7 @@ fn text_of(rt: &HostRuntime, name: &str) -> io::Result<String> {
     }
 }
 
-// (d) Each `match` prints what failed beside the name, and a `?` would hand it up without.
+// Each `match` prints what failed beside the name, and a `?` would hand it up without.
 fn run(rt: &HostRuntime, name: &str) -> io::Result<ExitCode> {
     let text = match text_of(rt, name) {
         Ok(text) => text,
