@@ -1,11 +1,11 @@
 -- A mirror's call, by the evaluator's answers.
-use Rattle.std.proofs.Common.{◌≡◌, ℕ, zero, suc, ◌-◌, ◌<◌, Bool, None, Ok, Option, Result, refl, ap, ◌∙◌, subst, arith}
+use Rattle.std.proofs.Common.{◌≡◌, ℕ, zero, suc, ◌-◌, ◌<◌, Bool, None, Ok, Option, Result, refl, ap, ◌∙◌, arith}
 use Rattle.std.proofs.lemmas.List.{length-reverse}
 use Rattle.column.specs.declared.fault.Fault.{Fault}
 use Rattle.column.specs.Refusal.{passes, kept_or}
 use Rattle.partition.specs.Table.{Input, row_count, whole_refusal}
 use Rattle.column.specs.Slots.{written}
-use Rattle.evaluator.specs.Meaning.{Partition, Meaning, WholeCall, partition}
+use Rattle.evaluator.specs.Meaning.{Meaning, WholeCall, partition}
 use Rattle.evaluator.specs.Mirror.{Mirror, Mirrored, turned}
 
 pub written_same : {S A : Type 0} (put : S → ℕ → A → S) (f g : ℕ → A) (s : S) (n : ℕ) → ((j : ℕ) → j < n → f j ≡ g j) → written put f s n ≡ written put g s n
@@ -26,7 +26,3 @@ mirrored_call {V} same wf wg meaning renewed mirrored e m law stored x y size s 
     let back : j ≡ n - 1 - (n - 1 - j) = omega arith in
     ap (λ (z : Input V). (meaning m).answer (partition wf z) j) q ∙ ap ((meaning m).answer (partition wf (turned same x))) back ∙ law.answers x size ok (n - 1 - j) (omega arith) in
     (d.0, d.1 ∙ ap (written stored ((meaning m).answer (partition wf y)) s) long ∙ written_same stored ((meaning m).answer (partition wf y)) (λ j. (meaning e).answer (partition wf x) (n - 1 - j)) s n at)
-
--- a call of one evaluator is a call of its equal
-pub same-call : {V A E S : Type 0} (meaning : E → Meaning V A) (m e : E) (stored : S → ℕ → A → S) (refusal : Option Fault) (p : Partition V) (n : ℕ) (s t : S) (r : Result (Unit {0}) Fault) → m ≡ e → WholeCall stored refusal ((meaning m).answer p) n s t r → WholeCall stored refusal ((meaning e).answer p) n s t r
-same-call {E = E} meaning m e stored refusal p n s t r q c = subst (λ (x : E). WholeCall stored refusal ((meaning x).answer p) n s t r) q c

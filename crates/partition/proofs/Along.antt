@@ -1,9 +1,9 @@
 -- Going through the groups of a column: what is known at place k, with what is left of them.
 use Rattle.std.proofs.Common.{◌≡◌, ℕ, ◌+◌, ◌<◌, ◌≤◌, Bool, true, false, not, ◌&&◌, ◌==◌, MatchOption, List, [], ◌∷◌, ◌++◌, length, get_or, take, drop, set, Some, None, Option, sym, refl, ap, ◌∙◌, arith, below_more}
-use Rattle.std.proofs.lemmas.List.{length-drop, drop_more, take_all, take_more, set_at, length-take-le, append_assoc}
+use Rattle.std.proofs.lemmas.List.{length-drop, drop_more, take_more, set_at, length-take-le, append_assoc}
 use Rattle.std.specs.Option.{option_eq}
 use Rattle.partition.specs.Peers.{Group}
-use Rattle.partition.specs.Table.{differ, groups_fault, at_front}
+use Rattle.partition.specs.Table.{differ, groups_fault}
 use Rattle.partition.proofs.Faults.{fault_some, fault_none}
 
 module _ (hs : List Group) (k : ℕ) (left : List Group) where
@@ -59,10 +59,7 @@ module _ (gs hs : List Group) (k : ℕ) (left : List Group) (a : Left hs k left)
       let more = at_next hs k left a x more n in
       e ∙ fault_some (λ k. differ (get_or gs k (0, 0)) (get_or hs k (0, 0))) (length gs) (length hs) (length gs) (omega (arith, more.0)) (omega (arith, more.0)) (λ j h. g j (omega arith)) (λ l. absurd (omega arith))
 
--- none of them yet over the front of a list, one more, and all
-pub front_none : (hs old left : List Group) (k : ℕ) → k ≡ 0 → left ≡ hs → Left hs k left × (old ≡ take k hs ++ drop k old)
-front_none hs old left k z e = (record { rest = rw z (sym e); within = omega (arith, z) }, rw z refl)
-
+-- one more of them over the front of a list
 front_more : (hs old now : List Group) (k : ℕ) (g : Group) → k < length hs → length hs ≤ length old → get_or hs k (0, 0) ≡ g → now ≡ take k hs ++ drop k old → set now k g ≡ take (k + 1) hs ++ drop (k + 1) old
 front_more hs old now k g h room e n =
     let d : drop k old ≡ get_or old k (0, 0) ∷ drop (k + 1) old = drop_more old k (0, 0) (omega arith) in
@@ -74,6 +71,3 @@ pub front_step : (hs old now left more : List Group) (n k m : ℕ) (g : Group) �
 front_step hs old now left more n k m g a f room e ek em =
     let x = at_next hs n left a g more e in
     (record { rest = rw em x.2; within = omega (arith, em, x.0) }, rw (ek, em) (front_more hs old now n g x.0 room x.1 f))
-
-pub front_all : (hs old now : List Group) (k : ℕ) → length hs ≡ k → now ≡ take k hs ++ drop k old → now ≡ at_front hs old
-front_all hs old now k e n = n ∙ rw (← e, take_all (length hs) hs (omega arith)) refl

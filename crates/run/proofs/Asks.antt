@@ -1,6 +1,5 @@
 -- A request past the checks, on a run that stands at a partition whose frames are made to begin at 0 where the run is so set.
-use Rattle.std.proofs.Common.{◌≡◌, ◌==◌, ℕ, zero, suc, ◌+◌, ◌<◌, ◌≤◌, Bool, true, false, T, List, length, take, Some, None, Ok, Err, Option, Result, sym, refl, ap, ◌∙◌, subst, ⊎_elim, arith, eqb→eq}
-use Rattle.std.specs.Option.{option_eq}
+use Rattle.std.proofs.Common.{◌≡◌, ℕ, zero, suc, ◌+◌, ◌<◌, ◌≤◌, Bool, true, false, T, List, length, take, Some, None, Ok, Err, Option, Result, sym, refl, ap, ◌∙◌, subst, ⊎_elim, arith, eqb→eq}
 use Rattle.std.proofs.lemmas.Bool.{cases_lt}
 use Rattle.std.proofs.lemmas.Bool.Decides.{nat_tests}
 use Rattle.column.specs.declared.fault.Fault.{Fault}
@@ -11,7 +10,7 @@ use Rattle.evaluator.specs.Meaning.{Partition}
 use Rattle.partition.specs.Table.{Frame}
 use Rattle.run.specs.Shown.{Shows, Framed, Ordered, shown, end_of, frame_at, frame_before, based_frames, based}
 use Rattle.evaluator.specs.Meaning.{Meaning, Laws, settles}
-use Rattle.run.specs.Rows.{Asks, Handed, Given, left_by}
+use Rattle.run.specs.Rows.{Asks, Given}
 use Rattle.column.specs.Refusal.{passes}
 use Rattle.run.specs.Table.{refusal, is_total}
 use Rattle.run.specs.Run.{refusal_at, frame_or_none, OutcomeBy, Requested}
@@ -97,42 +96,7 @@ got m n law z p a known i r same len g false e =
     let d : settles m (based z p) a known i ≡ false = ap (λ (fs : List Frame). m.settled (take a p.rows) fs known i) same ∙ e in
     subst (λ (s : Bool). Given m n (based z p) i s r) d g
 
--- a request past the checks hands over what a row call requires
-passed_inside : (b : Progress) (t : Option ℕ) (mark begin values marks : ℕ) (g : Frame) → refusal true b t mark begin values marks (Some g) ≡ None → T (is_total t (begin + values)) → g.1 ≤ begin + values
-passed_inside b None mark begin values marks g n k = absurd k
-passed_inside b (Some a) mark begin values marks g n k = let e : begin + values ≡ a = eqb→eq (begin + values) a k in grind (arith, nat_tests)
-
-pub handed : {V : Type 0} (wants : Bool) (b : Progress) (t : Option ℕ) (mark : ℕ) (w : Window V) (f : Option Frame) → refusal_at wants b t mark w f ≡ None → Handed wants mark w (frame_or_none f) (is_total t (end_of w))
-handed true b t mark w None n = let z : ◌≡◌ {A = ℕ} 0 1 = cc in absurd (omega arith)
-handed true b t mark w (Some g) n = record {
-  lengths = grind (arith, nat_tests);
-  limited = grind (arith, nat_tests);
-  kept = grind (arith, nat_tests);
-  proper = λ y. (passed-frame b t mark w.begin (length w.rows.values.now) (length w.rows.marks.now) g n).proper;
-  inside = λ y k. passed_inside b t mark w.begin (length w.rows.values.now) (length w.rows.marks.now) g n k;
-}
-handed false b t mark w f n = record {
-  lengths = grind (arith, nat_tests);
-  limited = grind (arith, nat_tests);
-  kept = grind (arith, nat_tests);
-  proper = λ y. absurd y;
-  inside = λ y k. absurd y;
-}
-
--- whether a number is the total, as `==` tests it
-pub known_as : (t : Option ℕ) (n : ℕ) → option_eq (λ x y. x == y) (Some n) t ≡ is_total t n
-known_as None n = refl
-known_as (Some k) n = refl
-
--- the same, by what the calls before it returned
-pub handed_by : {V : Type 0} (wants wants' : Bool) (b : Progress) (t t' : Option ℕ) (mark mark' : ℕ) (w : Window V) (f : Option Frame) (g : Frame) (known : Bool) → wants' ≡ wants → t' ≡ t → mark' ≡ mark → refusal_at wants' b t' mark' w f ≡ None → g ≡ frame_or_none f → known ≡ option_eq (λ x y. x == y) (Some (end_of w)) t' → Handed wants mark w g known
-handed_by wants wants' b t t' mark mark' w f g known ew et em n eg ek = rw (← ew, ← em, eg, ek, known_as t' (end_of w)) (handed wants' b t' mark' w f n)
-
--- what a passed check, and one that is not, tell
-pub passed : (o : Option Fault) (x : Unit {0}) → Ok x ≡ passes o → o ≡ None
-passed None x e = refl
-passed (Some f) x e = let z : ◌≡◌ {A = ℕ} 0 1 = cc in absurd (omega arith)
-
+-- what a check that is not passed tells
 pub failed : (o : Option Fault) (f : Fault) → Err f ≡ passes o → o ≡ Some f
 failed None f e = let z : ◌≡◌ {A = ℕ} 0 1 = cc in absurd (omega arith)
 failed (Some g) f e = cc
@@ -147,7 +111,3 @@ refused_by meaning wants wants' b t t' mark' w f e x y r ew et em ey er ex =
       mark = omega arith;
       given = λ k. let z : ◌≡◌ {A = ℕ} 0 1 = cc in absurd (omega arith);
     }
-
--- and leaves what was there
-pub left-refused : {A S : Type 0} (r : Result A Fault) (x : Fault) (old new : S) → r ≡ Err x → old ≡ left_by r old new
-left-refused r x old new e = sym (ap (λ y. left_by y old new) e)

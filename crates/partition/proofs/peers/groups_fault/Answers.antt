@@ -1,10 +1,7 @@
-use Rattle.std.proofs.Common.{rules, refl, sym, ◌∙◌, arith}
+use Rattle.std.proofs.Common.{rules, sym, ◌∙◌, arith}
 use Rattle.partition.specs.Walk.{groups_left}
 use Rattle.partition.proofs.Along.{next_differs, next_agrees, none_left}
 use Rattle.partition.proofs.peers.groups_fault.Goals as goal
-
-pub loop-k-init : goal.loop-k-init
-loop-k-init g c = (record { rest = refl; within = omega arith }, λ j h. absurd (omega arith))
 
 pub returns-then-ne : goal.returns-then-ne
 returns-then-ne g c = next_differs c.args.groups.now (groups_left g.K.Kind.same c.args.own) c.loop-k.k _ c.loop-k.invariant.0 c.loop-k.invariant.1 _ c.loop-k-test.true c.next.result c.next.ensures.steps (sym c.ne.ensures ∙ c.if-ne.true)

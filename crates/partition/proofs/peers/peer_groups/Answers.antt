@@ -3,9 +3,5 @@ use Rattle.column.proofs.Sameness.{sameness}
 use Rattle.partition.proofs.Groups.{peer_law}
 use Rattle.partition.proofs.peers.peer_groups.Goals as goal
 
-pub returns : goal.returns
-returns g c = record {
-  result = c.work_out.ensures.result;
-  list = c.work_out.ensures.list;
-  law = peer_law g.K.Kind.same (sameness g.K.PartialEq.eq g.K.Kind.same g.met.K.Eq.laws g.met.K.Kind.tested).reflexive (column_cells c.args.column.now);
-}
+pub returns-clause-law : goal.returns-clause-law
+returns-clause-law g c = peer_law g.K.Kind.same (sameness g.K.PartialEq.eq g.K.Kind.same g.met.K.Eq.laws g.met.K.Kind.tested).reflexive (column_cells c.args.column.now)

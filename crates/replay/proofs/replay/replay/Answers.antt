@@ -1,6 +1,5 @@
 use Rattle.std.proofs.Common.{◌≡◌, ℕ, ◌+◌, length, take, vec_items, refl, ap, ◌∙◌, subst, arith}
 use Rattle.std.proofs.lemmas.List.{length_push, take_all}
-use Rattle.std.proofs.lemmas.Result.{err_from_is_err_and}
 use Rattle.run.specs.declared.run.Run.TheVariants.{Opened}
 use Rattle.replay.specs.History.{history}
 use Rattle.replay.specs.Act.{Followed}
@@ -19,9 +18,6 @@ loop-call-init g c = (
   ap length c.new-entries.ensures.items,
   follow_start (λ e. (g.E.Evaluator.meaning e).keep) g.E.RowEvaluator.stepped g.E.RowEvaluator.settling g.E.Evaluator.WANTS_FRAMES c.args.from_zero c.new.result.evaluator (Opened c.new.result) refl,
 )
-
-pub returns-in_err-push : goal.returns-in_err-push
-returns-in_err-push g c = let p = err_from_is_err_and c.from_residual.result c.from_residual.ensures.1 in rw p.1 tt
 
 pub loop-call-preserved : goal.loop-call-preserved
 loop-call-preserved g c =
