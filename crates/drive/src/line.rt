@@ -87,7 +87,7 @@ fn answer_at<K: Value>(heap: Global, text: &str) -> Result<String, Stop> {
     cursor.field();
     cursor.expect(b' ')?;
     let made = WindowShift::try_from(shift);
-    // by form: each has another rest of the line to read
+    // by form: a run has another rest of its line than a whole partition, and a closure for each would be longer
     match form {
         Form::Whole => whole_line(heap, text, &mut cursor, made),
         Form::Mirror => whole_line(heap, text, &mut cursor, made.map(|shift| shift.mirror())),
@@ -101,7 +101,7 @@ fn answer(heap: Global, text: &str) -> Result<String, Stop> {
     read_form(&mut cursor)?;
     cursor.field();
     cursor.expect(b' ')?;
-    // by name: each chooses a type, which no table of functions could hold
+    // by name: each chooses a type, and a table would name them all the same
     match read_kind(&mut cursor)? {
         KindName::Instant => answer_at::<Instant>(heap, text),
         KindName::Pseudonym => answer_at::<Pseudonym>(heap, text),

@@ -130,7 +130,7 @@ pub(crate) fn answer_whole<K: Value>(
     made: Result<WindowShift<K>, Fault>,
 ) -> Result<String, Stop> {
     let handed = read_handed::<K>(heap, cursor)?;
-    // both arms can fail, each in its own way
+    // both arms can fail, each in its own way, so that no combinator is plainer
     match made {
         Ok(shift) => Ok(call(heap, &shift, &handed)?),
         Err(fault) => Ok(Refusal(fault).to_string(heap)?),

@@ -36,7 +36,7 @@ impl<K: Kind> RankState<K> {
         requires { next < row_limit }
         ensures { self.new ≡ state_after K.Kind.same self.old cell next }
     {
-        // the project asks for this form: a lent Option matched beside the cell, and filled in place
+        // by the rule on forms in docs/DECISIONS.md: the state and the cell are matched together, and the state is filled in place
         let opens = match (&mut self.last_rank_data, cell) {
             (Some(first), cell) => {
                 let held = *first;
