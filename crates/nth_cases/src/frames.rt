@@ -31,6 +31,7 @@ fn answers(function: &NthValue<Instant>) -> Result<([Instant; 6], [bool; 6]), Fa
     Ok((out, present))
 }
 
+#[cfg(test)]
 fn check_answers(
     rt: &impl Abort,
     function: &NthValue<Instant>,
