@@ -1,5 +1,6 @@
-use column::column::same_cell;
+use column::column::{Column, same_cell};
 use column::kind::{CollegeCode, Instant, Kind, LoginOutcome, Pair, Pseudonym};
+use std::test::Fail;
 
 #[test]
 fn part_by_part(rt: HostRuntime) {
@@ -28,4 +29,15 @@ fn pairs_and_cells(rt: HostRuntime) {
     assert!(rt; !same_cell(Some(pair), None));
     assert!(rt; !same_cell(None, Some(pair)));
     assert!(rt; same_cell::<Instant>(None, None));
+}
+
+#[test]
+fn cells_of_a_column(rt: HostRuntime) -> Result<(), Fail> {
+    let column = Column {
+        values: &[Instant(1), Instant(2), Instant(3)],
+        marks: &[true, false],
+    };
+    let cells = column.to_cells(rt.alloc())?;
+    assert_eq!(rt; cells.as_slice(), &[Some(Instant(1)), None]);
+    Ok(())
 }

@@ -1,9 +1,12 @@
-ghost use Rattle.std.specs.Prelude.{◌≡◌, false, length, None, slice_index_or};
+ghost use Rattle.std.specs.Prelude.{◌≡◌, ◌+◌, ◌-◌, ◌^◌, min, false, map, length, None, slice_index_or, IfOk};
+ghost use Rattle.std.specs.Bool.{then_some};
+ghost use Rattle.std.specs.List.{zip};
 ghost use Rattle.column.specs.Cells.{column_cells, same_cell, view};
 ghost use Rattle.column.specs.Refusal.{passes, column_refusal};
 
 use crate::fault::Fault;
 use crate::kind::Kind;
+use std::alloc::{AllocError, Global};
 
 // The most rows that a partition has.
 pub const ROW_LIMIT: usize = 16_777_216;
@@ -33,25 +36,53 @@ impl<'a, K> Window<'a, K> {
         let rows = Column { values, marks };
         Window { begin, rows }
     }
+
+    // The row after the last; the largest number where it lies above that.
+    pub fn end(&self) -> usize
+        ensures { result ≡ min (self.now.begin + length self.now.rows.values.now) (2 ^ 64 - 1) }
+    {
+        self.begin.saturating_add(self.rows.values.len())
+    }
 }
 
 // The mark of a row; past the end false.
 fn is_marked(marks: &[bool], row: usize) -> bool
     ensures { result ≡ slice_index_or marks.now row false }
 {
-    row < marks.len() && marks[row]
+    marks.get(row) == Some(&true)
+}
+
+// The values with a true mark, NULL for the others.
+fn marked_values<K: Kind>(
+    heap: Global,
+    values: &[K],
+    marks: &[bool],
+) -> Result<Vec<Option<K>>, AllocError>
+    ensures { IfOk result (λ v. v.items ≡ map (λ p. then_some p.1 p.0) (zip values.now marks.now)) }
+{
+    values
+        .iter()
+        .zip(marks)
+        .map(|(value, mark)| mark.then_some(*value))
+        .collect(heap)
 }
 
 impl<K: Kind> Column<'_, K> {
     // The cell of a row; past the end NULL.
+    #[tactic(auto, using(crate::proofs::Cells::cell_within, crate::proofs::Cells::cell_past))]
     pub fn cell(&self, row: usize) -> Option<K>
         ensures { result ≡ slice_index_or (column_cells self.now) row None }
     {
-        let values = self.values;
-        if row < values.len() && is_marked(self.marks, row) {
-            return Some(values[row]);
-        }
-        None
+        let value = self.values.get(row)?;
+        is_marked(self.marks, row).then_some(*value)
+    }
+
+    // All cells, as many as the shorter list has.
+    #[tactic(auto, using(crate::proofs::Cells::zipped))]
+    pub fn to_cells(&self, heap: Global) -> Result<Vec<Option<K>>, AllocError>
+        ensures { IfOk result (λ v. v.items ≡ column_cells self.now) }
+    {
+        marked_values(heap, self.values, self.marks)
     }
 
     // Values and marks are equally many, and not too many.
@@ -75,10 +106,7 @@ impl<K: Kind> Window<'_, K> {
     pub fn cell(&self, row: usize) -> Option<K>
         ensures { result ≡ view self.now row }
     {
-        if row < self.begin {
-            return None;
-        }
-        self.rows.cell(row - self.begin)
+        self.rows.cell(row.checked_sub(self.begin)?)
     }
 }
 
