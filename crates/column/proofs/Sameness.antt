@@ -7,7 +7,7 @@ pub record Sameness {V : Type 0} (same : V → V → Bool) : Type 0 where
   pub symmetric : (x y : V) → T (same x y) → T (same y x)
   pub transitive : (x y z : V) → T (same x y) → T (same y z) → T (same x z)
 
-holds : (b : Bool) → T b → b ≡ true
+pub holds : (b : Bool) → T b → b ≡ true
 holds true h = refl
 holds false h = absurd h
 

@@ -1,19 +1,16 @@
 -- A row call of a shift: what its window shows, and what it then gives.
-use Rattle.std.proofs.Common.{◌≡◌, ℕ, ◌+◌, ◌-◌, ◌<◌, ◌≤◌, Bool, true, false, cond, not, ◌||◌, T, ltb, leb, List, length, take, is_some, Some, None, Ok, Err, Option, Result, sym, refl, ap, ◌∙◌, subst, ⊎_elim, arith}
+use Rattle.std.proofs.Common.{◌≡◌, ℕ, ◌+◌, ◌-◌, ◌<◌, ◌≤◌, Bool, true, false, cond, not, ◌||◌, T, ltb, leb, List, length, take, is_some, Some, None, Ok, Err, Option, sym, refl, ap, ◌∙◌, subst, ⊎_elim, arith}
 use Rattle.std.specs.List.{slice_get}
 use Rattle.std.proofs.lemmas.List.{take_all}
 use Rattle.std.proofs.lemmas.Option.{cond_some, same_Some}
 use Rattle.std.proofs.lemmas.Bool.Decides.{nat_tests}
 use Rattle.std.proofs.lemmas.Bool.{cases_Bool, cond-false, ltb-true}
-use Rattle.column.specs.declared.fault.Fault.{Fault}
 use Rattle.column.specs.declared.fault.Fault.TheVariants.{TooEarly}
 use Rattle.column.specs.declared.column.Window.{Window}
 use Rattle.column.specs.Cells.{view}
 use Rattle.partition.specs.Table.{Frame}
 use Rattle.run.specs.Shown.{end_of}
-use Rattle.evaluator.specs.Meaning.{Partition, Alike, WholeCall, settles}
-use Rattle.column.specs.Refusal.{passes}
-use Rattle.std.specs.Result.{is_err}
+use Rattle.evaluator.specs.Meaning.{Partition, Alike, settles}
 use Rattle.run.specs.Rows.{Handed, Asks, RowCall}
 use Rattle.evaluator.proofs.Settles.{settled_no, settled_yes}
 use Rattle.run.proofs.Seen.{seen_rows, seen_view, given_ok, given_early}

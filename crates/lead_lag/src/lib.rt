@@ -129,12 +129,9 @@ impl<K: Kind> RowEvaluator for WindowShift<K> {
     ghost settling = { shift_settling };
 
     fn row(&mut self, turn: &Turn<'_, K>) -> Result<Option<K>, Fault> {
-        let next = turn.next();
+        let next = turn.shown()?;
         let window = turn.window();
         let end = turn.end();
-        if next >= end {
-            return Err(Fault::TooEarly(next));
-        }
         let look = self.look();
         let source = look.source(self.held, &window, next, end);
         if look.must_wait(source, turn.known()) {

@@ -1,19 +1,27 @@
 -- The groups of a list of cells, one by one.
-use Rattle.std.proofs.Common.{◌≡◌, ℕ, zero, suc, ◌+◌, ◌-◌, ◌<◌, ◌≤◌, Bool, true, false, T, List, [], ◌∷◌, length, get_or, drop, Some, None, Option, sym, refl, ap, ◌∙◌, subst, ⊎_elim, add-zero, arith}
+use Rattle.std.proofs.Common.{◌≡◌, ℕ, zero, suc, ◌+◌, ◌-◌, ◌<◌, ◌≤◌, Bool, true, false, T, List, [], ◌∷◌, length, get_or, drop, Some, None, Option, MatchOption, unwrap_or, sym, refl, ap, ◌∙◌, subst, ⊎_elim, add-zero, arith}
 use Rattle.std.proofs.lemmas.List.{drop_more, drop_all, length-drop, get_or-drop, drop-drop}
 use Rattle.std.proofs.lemmas.Bool.{cond-true, cond-false, cond_both, cases_Bool, cases_eq}
 use Rattle.column.specs.Cells.{same_cell}
+use Rattle.std.specs.Cmp.{IsEquivalence}
+use Rattle.column.proofs.Sameness.{holds, sameness}
 use Rattle.partition.specs.Peers.{Group, continued, peers_from, peers, IsGroup, Tiled, PeerLaw}
-
-is_true : (b : Bool) → T b → b ≡ true
-is_true true h = refl
-is_true false h = absurd h
 
 pub same_self : {V : Type 0} (same : V → V → Bool) → ((x : V) → T (same x x)) → (c : Option V) → same_cell same c c ≡ true
 same_self same h None = refl
-same_self same h (Some x) = is_true (same x x) (h x)
+same_self same h (Some x) = holds (same x x) (h x)
 
 module _ {V : Type 0} (same : V → V → Bool) where
+  -- whether a row is the same as row s
+  abbrev pub Like : List (Option V) → ℕ → ℕ → Type 0
+  Like cs s k = same_cell same (get_or cs s None) (get_or cs k None) ≡ true
+
+  abbrev pub Unlike : List (Option V) → ℕ → ℕ → Type 0
+  Unlike cs s k = same_cell same (get_or cs s None) (get_or cs k None) ≡ false
+
+  from_start : ((x : V) → T (same x x)) → (cs : List (Option V)) (s e : ℕ) → ((k : ℕ) → s + 1 ≤ k → k < e → Like cs s k) → (j : ℕ) → s ≤ j → j < e → Like cs s j
+  from_start self cs s e h j p q = ⊎_elim (λ n. subst (Like cs s) (sym n) (same_self same self (get_or cs s None))) (λ n. h j (omega arith) q) (cases_eq j s)
+
   continued_run : (l : List (Option V)) (c : Option V) (s j m : ℕ) → m ≤ length l → ((k : ℕ) → k < m → same_cell same c (get_or l k None) ≡ true) → (m < length l → same_cell same c (get_or l m None) ≡ false) → continued same c s j l ≡ (s, j + m) ∷ peers_from same (j + m) (drop m l)
   continued_run [] c s j zero h a z = rw add-zero refl
   continued_run [] c s j (suc m) h a z = absurd (omega arith)
@@ -21,6 +29,11 @@ module _ {V : Type 0} (same : V → V → Bool) where
   continued_run (d ∷ ds) c s j (suc m) h a z =
       let e : j + 1 + m ≡ j + suc m = omega arith in
       cond-true (same_cell same c d) _ _ (a 0 (omega arith)) ∙ continued_run ds c s (j + 1) m (omega arith) (λ k l. a (suc k) (omega arith)) (λ l. z (omega arith)) ∙ rw e refl
+
+  -- the group of row s ends at the first row that differs, else at the last row
+  pub group_to : ((x : V) → T (same x x)) → (cs : List (Option V)) (s n : ℕ) → length cs ≡ n → s < n → (r : Option ℕ) → MatchOption r ((k : ℕ) → s + 1 ≤ k → k < n → Like cs s k) (λ e. (s + 1 ≤ e) × (e < n) × Unlike cs s e × ((k : ℕ) → s + 1 ≤ k → k < e → Like cs s k)) → (e : ℕ) → e ≡ unwrap_or r n → IsGroup same cs s e
+  group_to self cs s n long lt None h e is = record { nonempty = omega (arith, is); within = omega (arith, long, is); alike = λ j p q. from_start self cs s n h j p (omega (arith, is)); stops = λ l. absurd (omega (arith, long, is)) }
+  group_to self cs s n long lt (Some x) h e is = rw is (record { nonempty = omega (arith, h.0); within = omega (arith, long, h.1); alike = from_start self cs s x h.3; stops = λ l. h.2 })
 
   -- the groups from a group's first row on are that group and those from its end on
   pub run : (cs : List (Option V)) (s e : ℕ) → IsGroup same cs s e → peers_from same s (drop s cs) ≡ (s, e) ∷ peers_from same e (drop e cs)
@@ -84,3 +97,7 @@ module _ {V : Type 0} (same : V → V → Bool) where
   -- the groups of the cells tile them, and no other groups do
   pub peer_law : ((x : V) → T (same x x)) → (cs : List (Option V)) → PeerLaw same cs
   peer_law self cs = record { tiled = tiled self cs; only = λ gs t. only cs 0 gs t }
+
+-- the same of a kind, by its laws
+pub kind_law : {V : Type 0} (eq same : V → V → Bool) → IsEquivalence eq → ((x y : V) → eq x y ≡ same x y) → (cs : List (Option V)) → PeerLaw same cs
+kind_law eq same laws tested = peer_law same (sameness eq same laws tested).reflexive

@@ -22,23 +22,19 @@ impl<'a, K: Kind> PeerGroups<'a, K> {
             start: 0,
         }
     }
-}
 
-// The end of the peer group that begins at row `start`.
-fn group_end<K: Kind>(column: &Column<'_, K>, start: usize) -> usize
-    requires lengths { length column.now.values.now ≡ length column.now.marks.now }
-    requires within { start < length column.now.values.now }
-    ensures { IsGroup K.Kind.same (column_cells column.now) start result }
-{
-    let first = column.cell(start);
-    let n = column.values.len();
-    // by row number: no clause is inferred for a closure that reads the column, so `find` is longer
-    for i in start + 1..n {
-        if !same_cell(first, column.cell(i)) {
-            return i;
-        }
+    // The end of the next group, which begins at row `start`.
+    fn group_end(&self) -> usize
+        requires { self.now.start < length self.now.column.values.now }
+        ensures { IsGroup K.Kind.same (column_cells self.now.column) self.now.start result }
+    {
+        let column = &self.column;
+        let n = column.values.len();
+        let first = column.cell(self.start);
+        (self.start + 1..n)
+            .find(|row| !same_cell(first, column.cell(*row)))
+            .unwrap_or(n)
     }
-    n
 }
 
 impl<K: Kind> Iterator for PeerGroups<'_, K> {
@@ -53,9 +49,8 @@ impl<K: Kind> Iterator for PeerGroups<'_, K> {
         if start >= self.column.values.len() {
             return None;
         }
-        let end = group_end(&self.column, start);
-        self.start = end;
-        Some((start, end))
+        self.start = self.group_end();
+        Some((start, self.start))
     }
 }
 
@@ -66,6 +61,7 @@ pub(crate) fn groups_fault<K: Kind>(
 ) -> Option<usize>
     ensures { result ≡ groups_fault groups.now (groups_left K.Kind.same own.entry) }
 {
+    // no `position`: its test would move the groups on, which a reader expects of no test
     for (k, group) in groups.iter().enumerate() {
         if Some(*group) != own.next() {
             return Some(k);
@@ -89,21 +85,10 @@ fn write_groups<K: Kind>(own: PeerGroups<'_, K>, groups: &mut [(usize, usize)])
     requires { length (groups_left K.Kind.same own) ≤ length groups.old }
     ensures { groups.new ≡ at_front (groups_left K.Kind.same own.entry) groups.old }
 {
+    // by number: of a slice nothing is known after a `zip` of its `iter_mut`
     for (k, group) in own.enumerate() {
         groups[k] = group;
     }
-}
-
-// The checks in their order, then the groups.
-fn work_out<K: Kind>(column: &Column<'_, K>, groups: &mut [(usize, usize)]) -> Result<usize, Fault>
-    ensures result { result ≡ yields (length (column_groups K.Kind.same column.now)) (grouping_refusal K.Kind.same column.now (length groups.old)) }
-    ensures list { groups.new ≡ kept_or (grouping_refusal K.Kind.same column.now (length groups.old)) groups.old (at_front (column_groups K.Kind.same column.now) groups.old) }
-{
-    column.check()?;
-    let count = PeerGroups::of(column).count();
-    check_places(count, groups.len())?;
-    write_groups(PeerGroups::of(column), groups);
-    Ok(count)
 }
 
 // Works the peer groups of a column out, each its first row and the row after its last, and gives their number.
@@ -115,5 +100,9 @@ pub fn peer_groups<K: Kind>(
     ensures list { groups.new ≡ kept_or (grouping_refusal K.Kind.same column.now (length groups.old)) groups.old (at_front (column_groups K.Kind.same column.now) groups.old) }
     ensures law { PeerLaw K.Kind.same (column_cells column.now) }
 {
-    work_out(column, groups)
+    column.check()?;
+    let count = PeerGroups::of(column).count();
+    check_places(count, groups.len())?;
+    write_groups(PeerGroups::of(column), groups);
+    Ok(count)
 }

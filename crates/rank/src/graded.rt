@@ -34,6 +34,7 @@ fn write_graded<G: Graded, O: Output<G::Grade>>(
     groups: &[(usize, usize)],
     out: &mut O,
 )
+    // what the call's check has told of the groups, the rows and the output; a type that held it would be no equal of what the contract speaks of
     requires covers { Covers 0 groups.now rows }
     requires limited { rows ≤ row_limit }
     requires room { rows ≤ O.Output.size (O.Output.slots out.old) }

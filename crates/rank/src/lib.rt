@@ -7,7 +7,6 @@ mod fractions;
 mod graded;
 pub mod rank;
 pub mod row_number;
-mod shown;
 mod state;
 
 // The number of worked cases; they hold of the definitions.

@@ -8,7 +8,6 @@ ghost use Rattle.rank.specs.RanksLemmas.{rank_lawful};
 
 use crate::fractions::{Fraction, FractionEvaluator};
 use crate::graded::{Graded, evaluate_graded, fraction};
-use crate::shown::row_shown;
 use crate::state::RankState;
 use column::fault::Fault;
 use column::kind::Kind;
@@ -104,7 +103,7 @@ impl<K: Kind> RowEvaluator for Rank<K> {
     ghost settling = { rank_settling };
 
     fn row(&mut self, turn: &Turn<'_, K>) -> Result<u64, Fault> {
-        let next = row_shown(turn)?;
+        let next = turn.shown()?;
         self.state.step(next, turn.window().cell(next));
         Ok(self.rank())
     }

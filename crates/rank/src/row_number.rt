@@ -6,7 +6,6 @@ ghost use Rattle.column.specs.Slots.{written};
 ghost use Rattle.rank.specs.Numbers.{row_number_meaning, new_row_number, row_number_stepped, row_number_settling};
 ghost use Rattle.rank.specs.NumbersLemmas.{row_number_lawful};
 
-use crate::shown::row_shown;
 use column::fault::Fault;
 use column::kind::Kind;
 use column::output::Output;
@@ -43,6 +42,7 @@ fn row_number(row: usize) -> u64
 
 // Writes the number of each row.
 fn write_numbers<O: Output<u64>>(rows: usize, out: &mut O)
+    // what the call's check has told of the rows and the output; a type that held it would be no equal of what the contract speaks of
     requires limited { rows ≤ row_limit }
     requires room { rows ≤ O.Output.size (O.Output.slots out.old) }
     ensures slots { O.Output.slots out.new ≡ written O.Output.stored (λ i. i + 1) (O.Output.slots out.old) rows }
@@ -95,7 +95,7 @@ impl<K: Kind> RowEvaluator for RowNumber<K> {
     ghost settling = { row_number_settling };
 
     fn row(&mut self, turn: &Turn<'_, K>) -> Result<u64, Fault> {
-        let next = row_shown(turn)?;
+        let next = turn.shown()?;
         self.n_rows = self.n_rows.max(next + 1);
         Ok(row_number(next))
     }

@@ -32,6 +32,7 @@ impl<K: Kind> RankState<K> {
     }
 
     // Takes row `next` with its cell: it opens a group, or continues the one that is held.
+    // The bound is of a number, asked where one is counted up; a type for such numbers would be opened at each use.
     pub(crate) fn step(&mut self, next: usize, cell: Option<K>)
         requires { next < row_limit }
         ensures { self.new ≡ state_after K.Kind.same self.old cell next }

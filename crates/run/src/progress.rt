@@ -5,6 +5,7 @@ ghost use Rattle.run.specs.Run.{refusal_at};
 
 use column::column::{ROW_LIMIT, Window};
 use column::fault::Fault;
+use column::kind::Kind;
 
 // What a run remembers of its requests: its setting, the next row and the last wanted frame.
 #[derive(Clone, Copy)]
@@ -29,7 +30,7 @@ impl Progress {
     }
 
     // The first check of a row request that fails, but for the last check.
-    pub(crate) fn check<K>(
+    pub(crate) fn check<K: Kind>(
         &self,
         wants: bool,
         total: Option<usize>,
@@ -42,17 +43,11 @@ impl Progress {
         if wants && frame.is_none() {
             return Err(Fault::NoFrame(self.next));
         }
-        if let Some(t) = total
-            && self.next == t
-        {
-            return Err(Fault::NoRowLeft(t));
+        if total == Some(self.next) {
+            return Err(Fault::NoRowLeft(self.next));
         }
-        let values = window.rows.values.len();
-        let marks = window.rows.marks.len();
-        if values != marks {
-            return Err(Fault::Lengths(values.min(marks)));
-        }
-        let end = window.begin.saturating_add(values);
+        window.rows.check()?;
+        let end = window.end();
         if end > ROW_LIMIT {
             return Err(Fault::RowLimit(ROW_LIMIT));
         }

@@ -1,4 +1,5 @@
-ghost use Rattle.std.specs.Prelude.{◌≡◌, ◌≤◌};
+ghost use Rattle.std.specs.Prelude.{◌≡◌, ◌<◌, ◌≤◌, MatchResult};
+ghost use Rattle.column.specs.declared.fault.Fault.TheVariants.{TooEarly};
 ghost use Rattle.column.specs.Refusal.{row_limit};
 ghost use Rattle.run.specs.Shown.{end_of};
 ghost use Rattle.run.specs.Rows.{Stepping, Settling, left_by, Handed, RowCall, SettleCall};
@@ -37,8 +38,20 @@ impl<'a, K: Kind> Turn<'a, K> {
     pub fn end(&self) -> usize
         ensures { result ≡ end_of self.now.window }
     {
-        let Window { begin, rows } = self.window;
-        begin + rows.values.len()
+        self.window.end()
+    }
+
+    // The row that is asked for; too early if the window does not reach past it.
+    pub fn shown(&self) -> Result<usize, Fault>
+        ensures { MatchResult result
+            (λ row. (row ≡ self.now.next) × (row < end_of self.now.window))
+            (λ fault. (fault ≡ TooEarly self.now.next) × (end_of self.now.window ≤ self.now.next)) }
+    {
+        if self.next < self.end() {
+            Ok(self.next)
+        } else {
+            Err(Fault::TooEarly(self.next))
+        }
     }
 
     // The frame of the row, (0, 0) where frames are not wanted.

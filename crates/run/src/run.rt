@@ -49,7 +49,7 @@ impl<E: RowEvaluator, S: Stage> Running<E, S> {
             next: self.progress.next,
             window: *window,
             frame: frame.unwrap_or((0, 0)),
-            known: Some(window.begin + window.rows.values.len()) == total,
+            known: Some(window.end()) == total,
         };
         let answer = self.evaluator.row(&turn)?;
         self.progress.next += 1;

@@ -14,9 +14,9 @@ returns-then-start-self-clause-steps g c =
     (none, none)
 
 pub returns-clause-steps : goal.returns-clause-steps
-returns-clause-steps g c = run g.K.Kind.same (column_cells c.args.self.now.column) c.args.self.now.start c.group_end-end.result c.group_end-end.ensures
+returns-clause-steps g c = run g.K.Kind.same (column_cells c.args.self.now.column) c.args.self.now.start c.group_end-self.result c.group_end-self.ensures
 
 pub returns-clause-goes : goal.returns-clause-goes
 returns-clause-goes g c =
-    let step = ap length (run g.K.Kind.same (column_cells c.args.self.now.column) c.args.self.now.start c.group_end-end.result c.group_end-end.ensures) in
+    let step = ap length (run g.K.Kind.same (column_cells c.args.self.now.column) c.args.self.now.start c.group_end-self.result c.group_end-self.ensures) in
     record { on = λ f. (tt, tt, omega (arith, step)); keeps = tt; rests = λ f. tt }
