@@ -3,7 +3,6 @@
 ghost use Rattle.std.specs.Prelude.{◌≡◌, ◌≤◌, length};
 ghost use Rattle.column.specs.Cells.{column_cells};
 ghost use Rattle.column.specs.Slots.{written};
-ghost use Rattle.column.specs.Refusal.{row_limit};
 ghost use Rattle.lead_lag.specs.Shift.{Proper, shifted};
 
 use crate::offset::Way;
@@ -23,7 +22,6 @@ pub(crate) fn write_all<K: Kind, O: Output<Option<K>>>(
 )
     // what the call's check has told of the column and the output; a type that held it would be no equal of the column that the contract speaks of
     requires lengths { length column.now.values.now ≡ length column.now.marks.now }
-    requires limited { length column.now.values.now ≤ row_limit }
     requires room { length column.now.values.now ≤ O.Output.size (O.Output.slots out.old) }
     requires proper { Proper look.way }
     ensures slots { O.Output.slots out.new ≡ written O.Output.stored (shifted look.way look.ignore_nulls default (column_cells column.now)) (O.Output.slots out.old) (length column.now.values.now) }

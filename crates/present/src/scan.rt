@@ -1,5 +1,5 @@
 // The present rows ahead of a row, and those behind one.
-ghost use Rattle.std.specs.Prelude.{◌≡◌, ℕ, ◌+◌, ◌-◌, ◌≤◌, reverse};
+ghost use Rattle.std.specs.Prelude.{◌≡◌, ℕ, ◌+◌, ◌-◌, reverse};
 ghost use Rattle.std.specs.List.{slice_get};
 ghost use Rattle.column.specs.Cells.{view};
 ghost use Rattle.present.specs.Present.{ahead};
@@ -51,7 +51,6 @@ pub fn pass_ahead<K: Kind>(
     row: usize,
     n: usize,
 ) -> Option<usize>
-    requires { row ≤ n }
     ensures { (j : ℕ) → source ≡ slice_get (ahead (view window.now) row (n - row)) j → result ≡ slice_get (ahead (view window.now) (row + 1) (n - (row + 1))) j }
 {
     if window.cell(row).is_none() {
