@@ -45,6 +45,7 @@ pub(crate) fn present_after<K: Kind>(
 }
 
 // The present row of a number among those from `row` on becomes the one of that number from the next row on.
+#[tactic(auto, using(crate::proofs::Ahead::pass_null, crate::proofs::Ahead::pass_none, crate::proofs::Ahead::pass_found))]
 pub fn pass_ahead<K: Kind>(
     window: &Window<'_, K>,
     source: Option<usize>,
