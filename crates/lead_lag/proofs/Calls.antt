@@ -1,10 +1,10 @@
 -- A row call of a shift: what its window shows, and what it then gives.
-use Rattle.std.proofs.Common.{◌≡◌, ℕ, ◌+◌, ◌-◌, ◌<◌, ◌≤◌, Bool, true, false, cond, not, ◌||◌, T, ltb, leb, List, length, take, is_some, Some, None, Ok, Err, Option, sym, refl, ap, ◌∙◌, subst, ⊎_elim, arith}
+use Rattle.std.proofs.Common.{◌≡◌, ℕ, ◌+◌, ◌-◌, ◌<◌, ◌≤◌, Bool, true, false, cond, not, ◌||◌, T, ltb, leb, List, length, take, is_some, Some, None, Ok, Err, Option, unwrap_or, sym, refl, ap, ◌∙◌, subst, ⊎_elim, arith}
 use Rattle.std.specs.List.{slice_get}
 use Rattle.std.proofs.lemmas.List.{take_all}
 use Rattle.std.proofs.lemmas.Option.{cond_some, same_Some}
 use Rattle.std.proofs.lemmas.Bool.Decides.{nat_tests}
-use Rattle.std.proofs.lemmas.Bool.{cases_Bool, cond-false, ltb-true}
+use Rattle.std.proofs.lemmas.Bool.{cases_Bool, ltb-true}
 use Rattle.column.specs.declared.fault.Fault.TheVariants.{TooEarly}
 use Rattle.column.specs.declared.column.Window.{Window}
 use Rattle.column.specs.Cells.{view}
@@ -28,10 +28,6 @@ use Rattle.present.proofs.Counting.{counted-source}
 use Rattle.lead_lag.specs.Fronts.{way_proper, taken_same, Front, front_take, source_front}
 use Rattle.lead_lag.proofs.Holds.{holds_after, mark_below, mark_rises}
 
-cond_else : (b : Bool) (x r : ℕ) → cond b None (Some x) ≡ Some r → (b ≡ false) × (x ≡ r)
-cond_else true x r h = let z : ◌≡◌ {A = ℕ} 0 1 = cc in absurd (omega arith)
-cond_else false x r h = (refl, same_Some x r h)
-
 is_some_cond : (b : Bool) (x : ℕ) → is_some (cond b (Some x) None) ≡ b
 is_some_cond true x = refl
 is_some_cond false x = refl
@@ -47,10 +43,8 @@ source_low Own false h rows f i a p d l r e = let s = same_Some i r e in (omega 
 source_low Own true h rows f i a p d l r e = let s = same_Some i r e in (omega (arith, d.next_row), omega arith)
 source_low (Back m) false h rows f i a p d l r e = let s = (cond_some (leb m i) (i - m) r e).1 in (omega (arith, d.next_row), omega arith)
 source_low (Back m) true h rows f i a p d l r e =
-    let s = cond_else (ltb h.count m) h.oldest r e in
-    let t : mark_of (Back m) true h ≡ h.oldest = cond-false (ltb h.count m) 0 h.oldest s.0 in
-    let u = mark_below (Back m) true h rows i p d in
-    (omega (arith, t, s.1), omega (arith, t, s.1, u))
+    let t : mark_of (Back m) true h ≡ r = ap (λ (o : Option ℕ). unwrap_or o 0) e in
+    (omega (arith, t), omega (arith, t, mark_below (Back m) true h rows i p d))
 source_low (Ahead m) false h rows f i a p d l r e = let s = cond_some (ltb (i + m) a) (i + m) r e in (omega (arith, d.next_row, s.1), omega (arith, s.1, ltb-true (i + m) a s.0))
 source_low (Ahead m) true h rows f i a p d l r e = let s = ahead-number f (i + 1) (a - (i + 1)) (m - 1) r e in (omega (arith, d.next_row, s.from), omega (arith, s.below))
 
@@ -126,7 +120,7 @@ module _ {V : Type 0} (e : WindowShift V) (i : ℕ) (w : Window V) (frame : Fram
       taken_same (view w) (at p.rows) e.default_value source (λ r s. let b = source_low way ignoring e.held p.rows (view w) i (end_of w) (way_proper e.shift_offset) q.stands l r s in agree r (omega (arith, h.kept, b.0)) b.1) ∙ ap (taken (at p.rows) e.default_value) (source_whole y)
 
   stands_on : Holding way ignoring (held_after way ignoring e.held (view w) i) p.rows (i + 1)
-  stands_on = holds_after way ignoring e.held p.rows i (view w) (way_proper e.shift_offset) q.stands (λ k u v. agree k (omega (arith, h.kept)) (omega (arith, l)))
+  stands_on = holds_after way ignoring e.held p.rows i (view w) (way_proper e.shift_offset) (omega (arith, l, h.limited)) q.stands (λ k u v. agree k (omega (arith, h.kept)) (omega (arith, l)))
 
 -- a row call that is too early
 pub early : {V : Type 0} (e : WindowShift V) (i : ℕ) (w : Window V) (frame : Frame) (known : Bool) → Handed false (shift_meaning e).keep w frame known → i < end_of w → waits (way_of e.shift_offset) (source_by (way_of e.shift_offset) e.ignore_nulls e.held (view w) i (end_of w)) known ≡ true → RowCall shift_meaning false i w frame known e e (Err (TooEarly i))

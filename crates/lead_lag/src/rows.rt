@@ -1,8 +1,7 @@
 // Ported from `lead_lag.rs` of the crate datafusion-functions-window 55.0.0 (Apache-2.0), and changed:
 // `evaluate` as a row call that is told its window and refuses a row that is too early.
-ghost use Rattle.std.specs.Prelude.{◌≡◌, ◌<◌};
+ghost use Rattle.std.specs.Prelude.{◌≡◌};
 ghost use Rattle.column.specs.Cells.{view};
-ghost use Rattle.column.specs.Refusal.{row_limit};
 ghost use Rattle.lead_lag.specs.Shift.{row_off, taken, mark_of};
 ghost use Rattle.lead_lag.specs.Steps.{source_by, waits, held_after};
 
@@ -52,7 +51,6 @@ impl Look {
         next: usize,
         end: usize,
     ) -> Option<usize>
-        requires { next < end }
         ensures { result ≡ source_by self.way self.ignore_nulls held (view window.now) next end }
     {
         if !self.ignore_nulls {
@@ -61,7 +59,7 @@ impl Look {
         match self.way {
             Way::Own => Some(next),
             Way::Back(m) => oldest_source(m, held),
-            Way::Ahead(m) => present_ahead(window, next + 1, end, m),
+            Way::Ahead(m) => present_ahead(window, next.saturating_add(1), end, m),
         }
     }
 
@@ -74,7 +72,6 @@ impl Look {
 
     // What is held after row `next`.
     pub(crate) fn step<K: Kind>(self, held: Held, window: &Window<'_, K>, next: usize) -> Held
-        requires { next < row_limit }
         ensures { result ≡ held_after self.way self.ignore_nulls held (view window.now) next }
     {
         match self.way {

@@ -3,7 +3,6 @@
 ghost use Rattle.std.specs.Prelude.{◌≡◌, ◌≤◌, length};
 ghost use Rattle.column.specs.Cells.{column_cells};
 ghost use Rattle.column.specs.Slots.{written};
-ghost use Rattle.column.specs.Refusal.{row_limit};
 ghost use Rattle.lead_lag.specs.Shift.{Proper, shifted};
 
 use crate::offset::Way;
@@ -21,9 +20,8 @@ pub(crate) fn write_all<K: Kind, O: Output<Option<K>>>(
     column: &Column<'_, K>,
     out: &mut O,
 )
-    // what the call's check has told of the column and the output; a type that held it would be no equal of the column that the contract speaks of
+    // what the call's check has told of the column and the output; a struct that holds it is longer, and has this one use
     requires lengths { length column.now.values.now ≡ length column.now.marks.now }
-    requires limited { length column.now.values.now ≤ row_limit }
     requires room { length column.now.values.now ≤ O.Output.size (O.Output.slots out.old) }
     requires proper { Proper look.way }
     ensures slots { O.Output.slots out.new ≡ written O.Output.stored (shifted look.way look.ignore_nulls default (column_cells column.now)) (O.Output.slots out.old) (length column.now.values.now) }
@@ -38,7 +36,7 @@ pub(crate) fn write_all<K: Kind, O: Output<Option<K>>>(
         && look.ignore_nulls
     {
         // by row number, as an output is put to;
-        // each present row is passed over once, where a scan for each row would pass it m times
+        // each row is passed over once, where a scan for each row would pass it again and again
         let mut source = present_ahead(&window, 1, n, m);
         'ahead: for i in 0..n {
             out.put(i, take_cell(&window, default, source));

@@ -1,14 +1,12 @@
 -- What making fresh, a row call and settling give.
-use Rattle.std.proofs.Common.{◌≡◌, ℕ, ◌+◌, ◌<◌, ◌≤◌, Bool, true, false, ◌&&◌, ◌||◌, T, ltb, leb, length, get_or, take, Some, None, Ok, Option, Result, sym, refl, ap, ◌∙◌, subst, inl, inr, ⊎_elim, arith}
+use Rattle.std.proofs.Common.{◌≡◌, ℕ, ◌+◌, ◌<◌, ◌≤◌, Bool, true, false, ◌&&◌, ◌||◌, T, ltb, leb, length, get_or, take, Ok, Option, Result, sym, refl, ap, ◌∙◌, subst, inl, inr, ⊎_elim, arith}
 use Rattle.std.proofs.lemmas.Bool.{cases_lt, cases_Bool}
 use Rattle.std.proofs.lemmas.Bool.Decides.{nat_tests}
 use Rattle.column.specs.declared.fault.Fault.{Fault}
 use Rattle.column.specs.declared.column.Window.{Window}
 use Rattle.column.specs.Cells.{view}
 use Rattle.partition.specs.Table.{Frame}
-use Rattle.evaluator.specs.Meaning.{Partition, Alike, WholeCall, settles}
-use Rattle.column.specs.Refusal.{passes}
-use Rattle.std.specs.Result.{is_err}
+use Rattle.evaluator.specs.Meaning.{Partition, Alike, settles}
 use Rattle.run.specs.Shown.{end_of, frame_at}
 use Rattle.run.specs.Rows.{Handed, Asks, RowCall, SettleCall}
 use Rattle.run.proofs.Seen.{seen_rows, seen_within, seen_frame, seen_view, hidden_view, given_ok}

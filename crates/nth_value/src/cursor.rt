@@ -4,7 +4,6 @@
 ghost use Rattle.std.specs.Prelude.{◌≡◌, ℕ, ◌-◌, ◌<◌, ◌≤◌, List, reverse, length, Option as Cell};
 ghost use Rattle.std.specs.List.{slice_get};
 ghost use Rattle.column.specs.Cells.{view};
-ghost use Rattle.column.specs.Refusal.{row_limit};
 ghost use Rattle.present.specs.Present.{at, ahead};
 ghost use Rattle.present.specs.Counting.{Counting};
 ghost use Rattle.nth_value.specs.Frames.{picked, frame_rows};
@@ -69,7 +68,6 @@ fn find_behind<K: Kind>(
     window: &Window<'_, K>,
     frame: (usize, usize),
 ) -> Option<usize>
-    requires { frame.1 ≤ row_limit }
     ensures { (rows : List (Cell K)) → ShowsAll window.now rows → 0 < m → Counting m held.old rows held.old.next → Counting m held.new rows held.new.next × (result ≡ slice_get (reverse (ahead (at rows) frame.0 (frame.1 - frame.0))) (m - 1)) }
 {
     let (start, end) = frame;
@@ -109,7 +107,6 @@ impl Cursor {
     ) -> Option<usize>
         requires proper { frame.0 ≤ frame.1 }
         requires within { frame.1 ≤ n }
-        requires limited { n ≤ row_limit }
         ensures { (rows : List (Cell K)) → ShowsAll window.now rows → n ≡ length rows → Knows rows self.old → Knows rows self.new × (result ≡ finds self.old rows frame) × ((f : ℕ × ℕ) → finds self.new rows f ≡ finds self.old rows f) }
     {
         match self {

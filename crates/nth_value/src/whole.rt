@@ -3,7 +3,6 @@
 ghost use Rattle.std.specs.Prelude.{◌≡◌, ℕ, ◌<◌, ◌≤◌, length, slice_index_or};
 ghost use Rattle.column.specs.Cells.{column_cells};
 ghost use Rattle.column.specs.Slots.{written};
-ghost use Rattle.column.specs.Refusal.{row_limit};
 ghost use Rattle.nth_value.specs.Cursors.{Proper};
 ghost use Rattle.nth_value.specs.Nth.{frame_answers};
 
@@ -20,9 +19,8 @@ pub(crate) fn write_all<K: Kind, O: Output<Option<K>>>(
     frames: &[(usize, usize)],
     out: &mut O,
 )
-    // what the call's check has told of the column, the frames and the output; a type that held it would be no equal of what the contract speaks of
+    // what the call's check has told of the column, the frames and the output; a struct that holds it is longer, and has this one use
     requires lengths { length column.now.values.now ≡ length column.now.marks.now }
-    requires limited { length column.now.values.now ≤ row_limit }
     requires framed { length frames.now ≡ length column.now.values.now }
     requires fit { (i : ℕ) → i < length frames.now → ((slice_index_or frames.now i (0, 0)).0 ≤ (slice_index_or frames.now i (0, 0)).1) × ((slice_index_or frames.now i (0, 0)).1 ≤ length column.now.values.now) }
     requires room { length column.now.values.now ≤ O.Output.size (O.Output.slots out.old) }

@@ -90,7 +90,7 @@ nth_more (x ∷ xs) zero h = let z : ◌≡◌ {A = ℕ} 0 1 = cc in absurd (ome
 nth_more (x ∷ xs) (suc j) h = nth_more xs j h
 
 -- past row k, the row of number j among those from row k on becomes that among those from the next row on
-module _ {V : Type 0} (f : ℕ → Option V) (k n j : ℕ) (le : k ≤ n) where
+module _ {V : Type 0} (f : ℕ → Option V) (k n j : ℕ) where
   pub pass_null : (s : Option ℕ) → is_some (f k) ≡ false → s ≡ slice_get (ahead f k (n - k)) j → s ≡ slice_get (ahead f (k + 1) (n - (k + 1))) j
   pass_null s e h = h ∙ ⊎_elim
       (λ lt. ahead_past f k n j lt e)

@@ -1,40 +1,63 @@
 -- Looking back past m present rows: a count up to m, and the row of the oldest counted.
-use Rattle.std.specs.Prelude.{◌≡◌, ℕ, ◌+◌, ◌-◌, ◌<◌, min, max, cond, List, length, is_some, Some, None, Option, ◌==◌, nat_lt}
+use Rattle.std.specs.Prelude.{◌≡◌, ℕ, ◌+◌, ◌-◌, min, max, cond, List, [], length, is_some, Some, None, Option, nat_lt}
 use Rattle.std.specs.Option.{unwrap_or}
 use Rattle.std.specs.List.{slice_get}
 use Rattle.present.specs.declared.held.Held.{Held}
+use Rattle.present.specs.declared.held.Counted.{Counted}
 use Rattle.present.specs.Present.{at, before, ahead}
 
 -- nothing held yet
 abbrev pub start : Held
-start = record { next = 0; count = 0; oldest = 0 }
+start = record { next = 0; counted = None }
 
--- the present rows before row i are counted up to m, and the oldest counted is held
+-- of these rows, nearest first, so many are counted as there are up to m, and the oldest of those is held
+abbrev pub CountedOf : ℕ → Option Counted → List ℕ → Type 0
+CountedOf m None xs = xs ≡ []
+CountedOf m (Some c) xs = (c.count ≡ min m (length xs)) × (slice_get xs (c.count - 1) ≡ Some c.oldest)
+
+-- the present rows before row i are counted
 abbrev pub Counting : {V : Type 0} → ℕ → Held → List (Option V) → ℕ → Type 0
-Counting m h rows i = (h.count ≡ min m (length (before (at rows) i))) × (0 < h.count → slice_get (before (at rows) i) (h.count - 1) ≡ Some h.oldest)
+Counting m h rows i = CountedOf m h.counted (before (at rows) i)
 
--- the lowest row that may still be read: the oldest once m are counted, until then row 0
-abbrev pub held_mark : ℕ → Held → ℕ
-held_mark m h = cond (nat_lt h.count m) 0 h.oldest
+-- the oldest, once m are counted
+abbrev pub oldest_of : ℕ → Option Counted → Option ℕ
+oldest_of m None = None
+oldest_of m (Some c) = cond (nat_lt c.count m) None (Some c.oldest)
 
 -- the m-th present row back, by what is held
 abbrev pub oldest_source : ℕ → Held → Option ℕ
-oldest_source m h = cond (nat_lt h.count m) None (Some h.oldest)
+oldest_source m h = oldest_of m h.counted
 
--- the first present row after row o, up to row i; row o if there is none
+-- the lowest row that may still be read: the oldest once m are counted, until then row 0
+abbrev pub held_mark : ℕ → Held → ℕ
+held_mark m h = unwrap_or (oldest_source m h) 0
+
+-- the greatest number that a row can have
+abbrev pub last_row : ℕ
+last_row = 18446744073709551615
+
+-- the row after row i
+abbrev pub row_after : ℕ → ℕ
+row_after i = min (i + 1) last_row
+
+-- the first present row after row o, before row n; row o if there is none
 abbrev pub next_present : {V : Type 0} → (ℕ → Option V) → ℕ → ℕ → ℕ
-next_present cell o i = unwrap_or (slice_get (ahead cell (o + 1) (i - o)) 0) o
+next_present cell o n = unwrap_or (slice_get (ahead cell (o + 1) (n - (o + 1))) 0) o
 
 -- row i counted: as one more, or in place of the oldest
-abbrev pub counted : {V : Type 0} → ℕ → Held → (ℕ → Option V) → ℕ → Held
-counted m h cell i = cond (nat_lt h.count m)
-    (record { next = max h.next (i + 1); count = h.count + 1; oldest = cond (h.count == 0) i h.oldest })
-    (record { next = max h.next (i + 1); count = h.count; oldest = next_present cell h.oldest i })
+abbrev pub counted : {V : Type 0} → ℕ → Option Counted → (ℕ → Option V) → ℕ → Counted
+counted m None cell i = record { count = 1; oldest = i }
+counted m (Some c) cell i = cond (nat_lt c.count m)
+    (record { count = c.count + 1; oldest = c.oldest })
+    (record { count = c.count; oldest = next_present cell c.oldest (row_after i) })
 
 -- row i passed over
 abbrev pub passed : Held → ℕ → Held
-passed h i = record { next = max h.next (i + 1); count = h.count; oldest = h.oldest }
+passed h i = record { next = max h.next (row_after i); counted = h.counted }
 
 -- what is held after row i: a present row is counted
 abbrev pub counted_row : {V : Type 0} → ℕ → Held → (ℕ → Option V) → ℕ → Held
-counted_row m h cell i = cond (is_some (cell i)) (counted m h cell i) (passed h i)
+counted_row m h cell i = record {
+  next = max h.next (row_after i);
+  counted = cond (is_some (cell i)) (Some (counted m h.counted cell i)) h.counted;
+}

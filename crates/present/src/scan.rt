@@ -1,5 +1,5 @@
 // The present rows ahead of a row, and those behind one.
-ghost use Rattle.std.specs.Prelude.{◌≡◌, ℕ, ◌+◌, ◌-◌, ◌≤◌, reverse};
+ghost use Rattle.std.specs.Prelude.{◌≡◌, ℕ, ◌+◌, ◌-◌, reverse};
 ghost use Rattle.std.specs.List.{slice_get};
 ghost use Rattle.column.specs.Cells.{view};
 ghost use Rattle.present.specs.Present.{ahead};
@@ -45,13 +45,13 @@ pub(crate) fn present_after<K: Kind>(
 }
 
 // The present row of a number among those from `row` on becomes the one of that number from the next row on.
+#[tactic(auto, using(crate::proofs::Ahead::pass_null, crate::proofs::Ahead::pass_none, crate::proofs::Ahead::pass_found))]
 pub fn pass_ahead<K: Kind>(
     window: &Window<'_, K>,
     source: Option<usize>,
     row: usize,
     n: usize,
 ) -> Option<usize>
-    requires { row ≤ n }
     ensures { (j : ℕ) → source ≡ slice_get (ahead (view window.now) row (n - row)) j → result ≡ slice_get (ahead (view window.now) (row + 1) (n - (row + 1))) j }
 {
     if window.cell(row).is_none() {
