@@ -1,17 +1,12 @@
 -- The answers of the sessions, and of the records. Assumes nothing.
-use Rattle.std.proofs.Common.{◌≡◌, ℕ, ◌+◌, ◌<◌, ◌≤◌, List, [], ◌∷◌, ◌++◌, map, length, get_or, take, drop, None, vec_items, Vec, sym, refl, ap, ◌∙◌, subst, arith, length-append, All}
-use Rattle.std.proofs.lemmas.List.{length_push, map-append, length-map, get_or-map, take_at, take-append-drop, get_or_default}
+use Rattle.std.proofs.Common.{◌≡◌, ℕ, ◌+◌, ◌<◌, ◌≤◌, List, [], ◌++◌, map, length, get_or, take, drop, None, vec_items, Vec, sym, refl, ap, ◌∙◌, subst, arith, length-append, All}
+use Rattle.std.proofs.lemmas.List.{length_push, length-map, get_or-map, take_at, take-append-drop}
 use Rattle.column.specs.Refusal.{row_limit}
 use Rattle.sessions.specs.declared.partitions.Place.{Place}
 use Rattle.sessions.specs.declared.record.Record.{Record}
-use Rattle.sessions.specs.Sessions.{Cell, session_at, cells_of, last_present, last_expiry, Grouped, lists, Answered, AllAnswered, Bounded, Inside, cell_at, LastRenewed}
+use Rattle.sessions.specs.Sessions.{Cell, session_at, cells_of, last_present, last_expiry, Grouped, Answered, AllAnswered, Bounded, Inside, cell_at, LastRenewed}
+use Rattle.sessions.proofs.Places.{some_at}
 use Rattle.sessions.proofs.Groups.{cells-append, take_same}
-use Rattle.sessions.proofs.Pushes.{each_push}
-
--- something stands at each place of a list
-some_at : {X : Type 0} (xs : List X) (i : ℕ) → i < length xs → (x : X) × (x ≡ get_or xs i x)
-some_at [] i h = absurd (omega arith)
-some_at (x ∷ xs) i h = (get_or (x ∷ xs) i x, get_or_default (x ∷ xs) i x (get_or (x ∷ xs) i x) h)
 
 pub bounded_all : {Y : Type 0} {cs ps : List (Vec Cell Y)} → Bounded (map vec_items cs) → ps ≡ cs → All (λ p. length (vec_items p) ≤ row_limit) ps
 bounded_all {ps} b e k d h = subst (λ l. length l ≤ row_limit) (get_or-map vec_items ps k d [] h) (subst (λ l. Bounded (map vec_items l)) (sym e) b k)

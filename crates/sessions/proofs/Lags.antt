@@ -17,6 +17,7 @@ use Rattle.lead_lag.specs.Offset.{way_of}
 use Rattle.present.specs.Present.{at, before}
 use Rattle.lead_lag.specs.Shift.{taken, shifted, shift_meaning, making}
 use Rattle.sessions.specs.Sessions.{Cell, later, last_present, last_before, Answered}
+use Rattle.sessions.proofs.Places.{some_at}
 use Rattle.sessions.proofs.Present.{last_push}
 
 pub lag_is_last : (rows : List Cell) (i : ℕ) → i ≤ length rows → shifted (way_of (pos 1)) true None rows i ≡ last_before rows i
@@ -70,14 +71,10 @@ answered_by vs us ws ms ks ns em eu ek h = record {
     same : length ns ≡ length ws
     same = h.marks_long ∙ ek ∙ sym eu ∙ sym h.values_long
 
-    first : (k : ℕ) (xs : List Instant) → k < length xs → Instant
-    first k [] z = absurd (omega arith)
-    first k (y ∷ ys) z = y
-
     written : (k : ℕ) → k < length vs → get_or (cells ws ns) k None ≡ last_before (cells vs ms) k
     written k l =
         let w : k < length ws = omega (arith, h.values_long) in
-        let d = first k ws w in
+        let d = (some_at ws k w).0 in
         sym (cell_within ws ns k (get_or ws k d) (get_or_default ws k d (get_or ws k d) w) w)
         ∙ ap (λ b. then_some b (get_or ws k d)) (h.marks_at k l)
         ∙ ap (then_some (is_some (last_before (cells vs ms) k))) (h.values_at k d l)

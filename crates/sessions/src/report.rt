@@ -90,7 +90,7 @@ pub fn report<'a>(heap: Global, text: &'a str) -> Result<String, Refusal<'a>>
 {
     let table = read(heap, text)?;
     let records = table.records.as_slice();
-    // With `map_err` over this `match`, what is known of the answers stays open; a function that says it is longer.
+    // With `map_err` over this `match`, what the refusal says stays open: the closure would need a clause of its own.
     let answers = match last_renewed(heap, records) {
         Ok(answers) => answers,
         Err(Unanswered::Memory) => return Err(Refusal::Memory),
