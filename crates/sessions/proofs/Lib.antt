@@ -4,6 +4,7 @@ mod Groups
 mod Headers
 mod Lags
 mod Lines
+mod Places
 mod Present
 mod Pushes
 mod Texts

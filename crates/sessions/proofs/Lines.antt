@@ -1,13 +1,13 @@
 -- A record more that says what its line says. Assumes nothing.
-use Rattle.std.proofs.Common.{◌≡◌, ℕ, ◌+◌, ◌-◌, ◌<◌, ◌≤◌, slice_range, drop, List, [], ◌∷◌, ◌++◌, length, get_or, Some, None, Option, unwrap_or, sym, ap, ◌∙◌, subst, inl, inr, arith, Bor, MatchOption}
-use Rattle.std.proofs.lemmas.List.{length_push, get_or_default, get_or-drop, length-drop, take_all}
+use Rattle.std.proofs.Common.{◌≡◌, ℕ, ◌+◌, ◌<◌, ◌≤◌, List, [], ◌∷◌, ◌++◌, length, get_or, Some, None, Option, IfSome, IsSomeAnd, Result, Ok, Err, MatchResult, zero, suc, refl, unwrap_or, sym, ap, subst, inl, inr, arith, Bor, MatchOption}
+use Rattle.std.proofs.lemmas.List.{length_push, get_or_default}
+use Rattle.std.proofs.lemmas.Result.{MatchResult-at_ok, MatchResult-at_err}
 use Rattle.sessions.specs.declared.columns.Columns.{Columns}
 use Rattle.sessions.specs.declared.record.Record.{Record}
-use Rattle.sessions.specs.Reading.{Stripped, Lines, FromLine, FromLines, FromHeader, IsTable}
-use Rattle.sessions.specs.Faults.{LineRefused, BadFields, BadLine, Unread}
+use Rattle.sessions.specs.Reading.{Stripped, FromLine}
+use Rattle.sessions.specs.Faults.{LineRefused, LinesRefused}
 use Rattle.sessions.specs.declared.problem.Refusal.{Refusal}
 use Rattle.sessions.specs.declared.problem.Refusal.TheVariants as refusals
-use Rattle.sessions.specs.declared.problem.Problem.{Problem}
 use Rattle.sessions.proofs.Pushes.{each_push}
 
 -- what stands where a text had the byte c at its end, or had not
@@ -15,69 +15,48 @@ pub stripped_by : (c : ℕ) (line r : Bor (List ℕ)) (o : Option (Bor (List ℕ
 stripped_by c line r None h e = inr (ap (λ x. x.now) (sym e), h)
 stripped_by c line r (Some x) h e = inl (subst (λ (y : Bor (List ℕ)). line.now ≡ y.now ++ (c ∷ [])) (sym e) h)
 
--- the records of the first i lines behind the header
-pub record Read (c : Columns) (rest : List (Bor (List ℕ))) (i : ℕ) (rows : List Record) : Type 0 where
-  pub count : length rows ≡ i
-  pub each : (k : ℕ) (d : Record) (e : Bor (List ℕ)) → k < i → FromLine c (get_or rest k e).now (get_or rows k d)
+-- the first of some lines, wherever it is read
+pub first_line : (ls : List (Bor (List ℕ))) (x : Bor (List ℕ)) (header : List ℕ) → 0 < length ls → x ≡ get_or ls 0 x → Stripped 13 x.now header → (e : Bor (List ℕ)) → Stripped 13 (get_or ls 0 e).now header
+first_line ls x header some is st e = rw (← get_or_default ls 0 x e some, ← is) st
 
-pub none_read : (c : Columns) (rest : List (Bor (List ℕ))) (rows : List Record) → rows ≡ [] → Read c rest 0 rows
-none_read c rest rows e = record { count = ap length e; each = λ k d f h. absurd (omega (arith, h)) }
+-- what the readings of the lines behind the header gave, up to the first that was refused, that of line i + 1
+module _ (c : Columns) (ls : List (Bor (List ℕ))) (at : ℕ → Option (ℕ × Bor (Bor (List ℕ)))) (gave : ℕ → Option (Result Record Refusal)) (i : ℕ) {R : ℕ × Bor (Bor (List ℕ)) → Result Record Refusal → Type 0} (numbered : (j : ℕ) → IfSome (at j) (λ y. (y.0 ≡ j + 1) × (y.1.now ≡ get_or ls (j + 1) y.1.now))) (calls : (j : ℕ) → IfSome (gave j) (λ v. IsSomeAnd (at j) (λ y. R y v))) (says : (y : ℕ × Bor (Bor (List ℕ))) (v : Result Record Refusal) → R y v → MatchResult v (FromLine c y.1.now.now) (LineRefused c y.1.now.now (y.0 + 1))) (within : i + 1 < length ls) (read : (j : ℕ) → j < i → IsSomeAnd (gave j) (λ v. (r : Record) × (Ok r ≡ v))) where
+  line_read : (j : ℕ) → j + 1 < length ls → (Q : Result Record Refusal → Type 0) → IsSomeAnd (gave j) Q → (v : Result Record Refusal) × Q v × (d : Bor (List ℕ)) × ((e : Bor (List ℕ)) → MatchResult v (FromLine c (get_or ls (j + 1) e).now) (LineRefused c (get_or ls (j + 1) e).now (j + 1 + 1)))
+  line_read j h Q = here (gave j) (at j) (numbered j) (calls j)
+    where
+      here : (g : Option (Result Record Refusal)) (o : Option (ℕ × Bor (Bor (List ℕ)))) → IfSome o (λ y. (y.0 ≡ j + 1) × (y.1.now ≡ get_or ls (j + 1) y.1.now)) → IfSome g (λ v. IsSomeAnd o (λ y. R y v)) → IsSomeAnd g Q → (v : Result Record Refusal) × Q v × (d : Bor (List ℕ)) × ((e : Bor (List ℕ)) → MatchResult v (FromLine c (get_or ls (j + 1) e).now) (LineRefused c (get_or ls (j + 1) e).now (j + 1 + 1)))
+      here None o l t w = absurd w
+      here (Some v) None l t w = absurd t
+      here (Some v) (Some y) l t w = (v, w, y.1.now, λ e. rw (← get_or_default ls (j + 1) y.1.now e h, ← l.1, ← l.0) (says y v t))
 
-pub one_read : (c : Columns) (rest : List (Bor (List ℕ))) (i : ℕ) (x : Bor (List ℕ)) (rows rows' : List Record) (r : Record) → Read c rest i rows → i < length rest → FromLine c (get_or rest i x).now r → rows' ≡ rows ++ (r ∷ []) → Read c rest (i + 1) rows'
-one_read c rest i x rows rows' r old lt says more = record {
-  count = omega (arith, old.count, ap length more, length_push rows r);
-  each = λ k d e h. subst (λ l. FromLine c (get_or rest k e).now (get_or l k d)) (sym more) (each_push (λ n q. FromLine c (get_or rest n e).now q) rows r d i old.count (λ j l. old.each j d e l) (subst (λ (y : Bor (List ℕ)). FromLine c y.now r) (get_or_default rest i x e lt) says) k h);
-}
+  row_at : (j : ℕ) → j < i → (r : Record) × ((e : Bor (List ℕ)) → FromLine c (get_or ls (j + 1) e).now r)
+  row_at j h =
+      let w = line_read j (omega (arith, h, within)) _ (read j h) in
+      (w.1.0, λ e. MatchResult-at_ok _ _ w.1.0 (sym w.1.1) (w.3 e))
 
-module _ (text header : List ℕ) (c : Columns) (ls rest : List (Bor (List ℕ))) (i : ℕ) (x : Bor (List ℕ)) (rows : List Record) (lines : Lines text ls) (some : 0 < length ls) (behind : rest ≡ slice_range ls 1 (length ls)) (is : x ≡ get_or ls 0 x) (st : Stripped 13 x.now header) (head : FromHeader header c) (read : Read c rest i rows) where
-  rest_is : rest ≡ drop 1 ls
-  rest_is = behind ∙ take_all (length ls - 1) (drop 1 ls) (omega (arith, length-drop 1 ls))
+  rows_before : (n : ℕ) → n ≤ i → (rows : List Record) × (length rows ≡ n) × ((k : ℕ) (d : Record) (e : Bor (List ℕ)) → k < n → FromLine c (get_or ls (k + 1) e).now (get_or rows k d))
+  rows_before zero h = ([], refl, λ k d e l. absurd (omega (arith, l)))
+  rows_before (suc n) h =
+      let old = rows_before n (omega (arith, h)) in
+      let new = row_at n (omega (arith, h)) in (
+        old.0 ++ (new.0 ∷ []),
+        omega (arith, length_push old.0 new.0, old.1),
+        λ k d e l. each_push (λ m r. FromLine c (get_or ls (m + 1) e).now r) old.0 new.0 d n old.1 (λ m g. old.2 m d e g) (new.1 e) k (omega (arith, l)),
+      )
 
-  line_at : (k : ℕ) (e : Bor (List ℕ)) → get_or rest k e ≡ get_or ls (k + 1) e
-  line_at k e = ap (λ l. get_or l k e) rest_is ∙ get_or-drop 1 ls k e ∙ ap (λ (n : ℕ). get_or ls n e) (omega arith)
-
-  many : length rest + 1 ≡ length ls
-  many = omega (arith, some, ap length rest_is, length-drop 1 ls)
-
-  first : (e : Bor (List ℕ)) → Stripped 13 (get_or ls 0 e).now header
-  first e = subst (λ (y : Bor (List ℕ)). Stripped 13 y.now header) (sym (get_or_default ls 0 e x some ∙ sym is)) st
-
-  rows_read : FromLines c ls rows
-  rows_read k d e h = subst (λ (y : Bor (List ℕ)). FromLine c y.now (get_or rows k d)) (line_at k e) (read.each k d e (omega (arith, h, read.count)))
-
-  -- all of them
-  pub all_read : length rest ≤ i → i ≤ length rest → IsTable text header rows
-  all_read end within = record {
-    lines = ls;
-    lines_are = lines;
-    columns = c;
-    first = first;
-    header_read = head;
-    count = omega (arith, read.count, end, within, many);
-    rows_read = rows_read;
-  }
-
-  -- the first line that is no record
-  line_refused : (y : Bor (List ℕ)) (p : Problem) → i < length rest → BadFields c (get_or rest i y).now p → BadLine text (i + 2) p
-  line_refused y p lt bad = record {
-    lines = ls;
-    lines_are = lines;
-    columns = c;
-    header = header;
-    first = first;
-    header_read = head;
-    rows = rows;
-    rows_read = rows_read;
-    place = omega (arith, read.count);
-    within = omega (arith, lt, many);
-    line = bad.line;
-    here = λ e. subst (λ (z : Bor (List ℕ)). Stripped 13 z.now bad.line) (get_or_default rest i y e lt ∙ line_at i e ∙ ap (λ (n : ℕ). get_or ls (n + 1) e) (sym read.count)) bad.stripped;
-    fields = bad.fields;
-    cut = bad.cut;
-    apart = bad.apart;
-    fault = bad.fault;
-  }
-
-  pub unread : (y : Bor (List ℕ)) (r : Refusal) → i < length rest → LineRefused c (get_or rest i y).now (i + 2) r → Unread text r
-  unread y refusals.Memory lt bad = tt
-  unread y (refusals.At n p) lt bad = inr (inr (subst (λ (m : ℕ). BadLine text m p) (sym bad.0) (line_refused y p lt bad.1)))
+  pub lines_refused : (r : Refusal) → IsSomeAnd (gave i) (λ v. Err r ≡ v) → LinesRefused c ls r
+  lines_refused r bad =
+      let w = line_read i within _ bad in
+      here r w.2 (λ e. MatchResult-at_err _ _ r (sym w.1) (w.3 e))
+    where
+      here : (r : Refusal) → Bor (List ℕ) → ((e : Bor (List ℕ)) → LineRefused c (get_or ls (i + 1) e).now (i + 1 + 1) r) → LinesRefused c ls r
+      here refusals.Memory d f = tt
+      here (refusals.At n p) d f =
+          let before = rows_before i (omega arith) in
+          record {
+            rows = before.0;
+            rows_read = λ k d e h. before.2 k d e (omega (arith, h, before.1));
+            place = omega (arith, (f d).0, before.1);
+            within = omega (arith, (f d).0, within);
+            fault = λ e. rw (before.1) (f e).1;
+          }

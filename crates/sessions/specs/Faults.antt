@@ -105,7 +105,20 @@ pub record BadHeader (text : List ℕ) (p : Problem) : Type 0 where
   pub first : (e : Bor (List ℕ)) → Stripped 13 (slice_index_or lines 0 e).now line
   pub fault : HeaderFault line p
 
--- a text whose line n, from 1, is the first that is no record
+-- line n, from 1, is the first behind the header that is no record
+pub record BadRow (c : Columns) (lines : List (Bor (List ℕ))) (n : ℕ) (p : Problem) : Type 0 where
+  pub rows : List Record
+  pub rows_read : FromLines c lines rows
+  pub place : n ≡ length rows + 2
+  pub within : n ≤ length lines
+  pub fault : (e : Bor (List ℕ)) → BadFields c (slice_index_or lines (length rows + 1) e).now p
+
+-- lines behind a header that are refused, by memory or for the first that is no record
+abbrev pub LinesRefused : Columns → List (Bor (List ℕ)) → Refusal → Type 0
+LinesRefused c lines refusals.Memory = Unit {0}
+LinesRefused c lines (refusals.At n p) = BadRow c lines n p
+
+-- a text whose line n is the first that is no record
 pub record BadLine (text : List ℕ) (n : ℕ) (p : Problem) : Type 0 where
   pub lines : List (Bor (List ℕ))
   pub lines_are : Lines text lines
@@ -113,16 +126,7 @@ pub record BadLine (text : List ℕ) (n : ℕ) (p : Problem) : Type 0 where
   pub header : List ℕ
   pub first : (e : Bor (List ℕ)) → Stripped 13 (slice_index_or lines 0 e).now header
   pub header_read : FromHeader header columns
-  pub rows : List Record
-  pub rows_read : FromLines columns lines rows
-  pub place : n ≡ length rows + 2
-  pub within : n ≤ length lines
-  pub line : List ℕ
-  pub here : (e : Bor (List ℕ)) → Stripped 13 (slice_index_or lines (length rows + 1) e).now line
-  pub fields : List (Bor (List ℕ))
-  pub cut : line ≡ join_with_byte 44 (map (λ f. f.now) fields)
-  pub apart : Apart 44 fields
-  pub fault : LineFault columns line fields p
+  pub row : BadRow columns lines n p
 
 -- a text that is refused: for want of memory, or at a line for what is wrong with it
 abbrev pub Unread : List ℕ → Refusal → Type 0

@@ -84,10 +84,10 @@ pub record Appended (old new : List (List Cell)) (n : ℕ) (c : Cell) : Type 0 w
   pub here : slice_index_or new n [] ≡ slice_index_or old n [] ++ (c ∷ [])
   pub others : (k : ℕ) → k ≢ n → slice_index_or new k [] ≡ slice_index_or old k []
 
--- the answers of the first n lists
-pub record AllAnswered (ls : List (List Cell)) (n : ℕ) (answers : List (List Cell)) : Type 0 where
-  pub all : length answers ≡ n
-  pub each : (k : ℕ) → k < n → Answered (slice_index_or ls k []) (slice_index_or answers k [])
+-- the answers of each list
+pub record AllAnswered {Y : Type 0} (ls answers : List (Vec Cell Y)) : Type 0 where
+  pub all : length answers ≡ length ls
+  pub each : (k : ℕ) (d e : Vec Cell Y) → k < length ls → Answered (vec_items (slice_index_or ls k d)) (vec_items (slice_index_or answers k e))
 
 -- the place is in one of the lists
 abbrev pub Inside : List (List Cell) → Place → Type 0

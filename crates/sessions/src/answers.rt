@@ -1,6 +1,7 @@
 // The last renewed expiry before each record in its session.
-ghost use Rattle.std.specs.Prelude.{◌≡◌, map, length, IfOk, vec_items, MatchResult, All};
-ghost use Rattle.sessions.specs.Sessions.{AllAnswered, LastRenewed, lists, Inside, cell_at, Bounded, Within, Overfull, sessions_in};
+ghost use Rattle.std.specs.Prelude.{◌≡◌, ◌≤◌, map, length, IfOk, vec_items, MatchResult, All};
+ghost use Rattle.column.specs.Refusal.{row_limit};
+ghost use Rattle.sessions.specs.Sessions.{AllAnswered, LastRenewed, Inside, cell_at, Within, Overfull, sessions_in};
 
 use crate::cells::Cells;
 use crate::lag::answer_session;
@@ -10,16 +11,15 @@ use crate::record::Record;
 use column::kind::Instant;
 use std::alloc::{AllocError, Global};
 
-// Over `try_collect` of a `map`, the check leaves `returns` open: what each call gave.
+// The answers of each session.
 fn answer_sessions(heap: Global, partitions: &[Cells]) -> Result<Vec<Cells>, AllocError>
-    requires { Bounded (map vec_items partitions.now) }
-    ensures { IfOk result (λ v. AllAnswered (map vec_items partitions.now) (length partitions.now) (lists v)) }
+    requires { All (λ p. length (vec_items p) ≤ row_limit) partitions.now }
+    ensures { IfOk result (λ v. AllAnswered partitions.now v.items) }
 {
-    let mut answers = Vec::new(heap);
-    for cells in partitions {
-        answers.push(answer_session(heap, cells.as_slice())?)?;
-    }
-    Ok(answers)
+    partitions
+        .iter()
+        .map(|cells| answer_session(heap, cells.as_slice()))
+        .try_collect(heap)
 }
 
 // The cell at a place.

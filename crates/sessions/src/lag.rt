@@ -1,14 +1,13 @@
 // LAG 1 ignoring NULLs over one session's cells, by the proved evaluator.
 ghost use Rattle.std.specs.Prelude.{◌≡◌, ◌≤◌, true, false, map, length, pos, is_some, unwrap_or, None, Ok, IfOk};
 ghost use Rattle.column.specs.Refusal.{row_limit};
-ghost use Rattle.std.specs.Bool.{then_some};
-ghost use Rattle.std.specs.List.{zip};
 ghost use Rattle.evaluator.specs.declared.utils.Argument.TheVariants.{Missing};
 ghost use Rattle.lead_lag.specs.declared.offset.WindowShiftKind.TheVariants.{Lag};
 ghost use Rattle.lead_lag.specs.Shift.{making};
 ghost use Rattle.sessions.specs.Sessions.{Answered};
 
 use crate::cells::Cells;
+use column::column::Column;
 use column::kind::Instant;
 use evaluator::cells::evaluate_cells;
 use evaluator::utils::Argument;
@@ -32,17 +31,6 @@ fn marks_of(heap: Global, cells: &[Option<Instant>]) -> Result<Vec<bool>, AllocE
     ensures { IfOk result (λ v. v.items ≡ map (λ c. is_some c) cells.now) }
 {
     cells.iter().map(|cell| cell.is_some()).collect(heap)
-}
-
-// The values that are marked as present, NULL for the others.
-fn cells_of(heap: Global, values: &[Instant], marks: &[bool]) -> Result<Cells, AllocError>
-    ensures { IfOk result (λ v. v.items ≡ map (λ p. then_some p.1 p.0) (zip values.now marks.now)) }
-{
-    values
-        .iter()
-        .zip(marks)
-        .map(|(value, mark)| mark.then_some(*value))
-        .collect(heap)
 }
 
 // LAG 1 ignoring NULLs, NULL by default.
@@ -69,5 +57,9 @@ pub(crate) fn answer_session(heap: Global, cells: &[Option<Instant>]) -> Result<
         present.as_mut_slice(),
     )
     .unwrap();
-    cells_of(heap, answers.as_slice(), present.as_slice())
+    Column {
+        values: answers.as_slice(),
+        marks: present.as_slice(),
+    }
+    .to_cells(heap)
 }

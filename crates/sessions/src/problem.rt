@@ -54,7 +54,7 @@ impl<T: Drop> From<AllocFailed<T>> for Unanswered {
 }
 
 // Why there is no report.
-// One generic error for this and `Unanswered` would put each case in a struct of its own, here and in the contracts.
+// One generic error for this and `Unanswered` would save one `From` for two structs, one for what each holds beside `Memory`.
 #[derive(Clone, Copy)]
 pub enum Refusal<'a> {
     Memory,
@@ -65,14 +65,6 @@ impl<'a> From<AllocError> for Refusal<'a> {
     ghost from_gives = { λ _ r. r ≡ NoMemory };
 
     fn from(_e: AllocError) -> Refusal<'a> {
-        Refusal::Memory
-    }
-}
-
-impl<'a, T: Drop> From<AllocFailed<T>> for Refusal<'a> {
-    ghost from_gives = { λ _ r. r ≡ NoMemory };
-
-    fn from(_e: AllocFailed<T>) -> Refusal<'a> {
         Refusal::Memory
     }
 }

@@ -1,10 +1,10 @@
 // Reads the text of a file: a header, and a record a line.
-ghost use Rattle.std.specs.Prelude.{◌≡◌, ◌<◌, true, false, map, length, IfOk, Some, vec_len, MatchResult};
+ghost use Rattle.std.specs.Prelude.{◌≡◌, ◌<◌, ◌+◌, IfErr, true, false, map, length, IfOk, Some, vec_len, MatchResult};
 ghost use Rattle.std.specs.List.{join_with_byte};
 ghost use Rattle.std.specs.Str.Iter.{LacksByte};
-ghost use Rattle.sessions.specs.Reading.{Reads, Apart, IsRecord, FromHeader, FromLine, Stripped, Lines, IsTable};
+ghost use Rattle.sessions.specs.Reading.{Reads, Apart, IsRecord, FromHeader, FromLine, FromLines, Stripped, Lines, IsTable};
 ghost use Rattle.sessions.specs.Header.{Placed};
-ghost use Rattle.sessions.specs.Faults.{Holds, IsNoNumber, LineFault, LineRefused, HeaderRefused, Unread};
+ghost use Rattle.sessions.specs.Faults.{Holds, IsNoNumber, LineFault, LineRefused, LinesRefused, HeaderRefused, Unread};
 
 use crate::columns::{Columns, EXPIRY, INSTANT, find_columns};
 use crate::problem::{Problem, Refusal};
@@ -126,6 +126,26 @@ fn read_line<'a>(
     read_record(columns, line, fields.as_slice()).map_err(|problem| problem.at(n))
 }
 
+// The records of the lines below the header, which is line 1.
+fn read_lines<'a>(
+    heap: Global,
+    columns: &Columns,
+    lines: &[&'a str],
+) -> Result<Vec<Record<'a>>, Refusal<'a>>
+    requires placed { Placed columns.now }
+    requires some { 0 < length lines.now }
+    ensures count { IfOk result (λ v. length v.items + 1 ≡ length lines.now) }
+    ensures records { IfOk result (λ v. FromLines columns.now lines.now v.items) }
+    ensures refused { IfErr result (LinesRefused columns.now lines.now) }
+{
+    lines
+        .iter()
+        .enumerate()
+        .skip(1)
+        .map(|(i, line)| read_line(heap, columns, line, i + 1))
+        .try_collect(heap)
+}
+
 // The header and the records of a text; the first line that is wrong refuses it.
 pub(crate) fn read<'a>(heap: Global, text: &'a str) -> Result<Table<'a>, Refusal<'a>>
     ensures { MatchResult result (λ t. IsTable text.now t.header.now t.records.items) (Unread text.now) }
@@ -136,9 +156,6 @@ pub(crate) fn read<'a>(heap: Global, text: &'a str) -> Result<Table<'a>, Refusal
     }
     let header = without_end(lines[0], '\r');
     let columns = read_header(heap, header)?;
-    let mut records = Vec::new(heap);
-    for (i, line) in lines[1..].iter().enumerate() {
-        records.push(read_line(heap, &columns, line, i + 2)?)?;
-    }
+    let records = read_lines(heap, &columns, lines.as_slice())?;
     Ok(Table { header, records })
 }

@@ -18,7 +18,7 @@ fn count_nulls(cells: &[Option<Instant>]) -> usize
 }
 
 // How many records have no expiry.
-// One function with `count_nulls` would take an iterator, with clauses on its runs.
+// One function with `count_nulls`, given a closure for the cell, needs a clause on what that gives; what it counts stays open.
 fn count_empty(records: &[Record<'_>]) -> usize
     ensures { result ≡ nulls (map expiry_of records.now) }
 {
@@ -90,7 +90,7 @@ pub fn report<'a>(heap: Global, text: &'a str) -> Result<String, Refusal<'a>>
 {
     let table = read(heap, text)?;
     let records = table.records.as_slice();
-    // A closure for `map_err` would need clauses of its own, and be longer than this `match`.
+    // With `map_err` over this `match`, what the refusal says stays open: the closure would need a clause of its own.
     let answers = match last_renewed(heap, records) {
         Ok(answers) => answers,
         Err(Unanswered::Memory) => return Err(Refusal::Memory),

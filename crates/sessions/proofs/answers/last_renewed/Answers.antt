@@ -1,8 +1,11 @@
 use Rattle.std.proofs.Common.{vec_items, sym, ◌∙◌}
 use Rattle.std.proofs.lemmas.List.{length-map}
-use Rattle.sessions.proofs.Gathers.{lent_inside, lent_renewed}
+use Rattle.sessions.proofs.Gathers.{bounded_all, lent_inside, lent_renewed}
 use Rattle.sessions.proofs.Grouping.{within_all}
 use Rattle.sessions.proofs.answers.last_renewed.Goals as goal
+
+pub answer_sessions-requires : goal.answer_sessions-requires
+answer_sessions-requires c = bounded_all c.in_ok-partitions.ensures.1 c.as_slice.ensures.value
 
 pub gather-requires : goal.gather-requires
 gather-requires c = lent_inside c.in_ok-partitions.ensures.0 c.as_slice.ensures.value c.in_ok-answers.ensures c.as_slice-3.ensures.value c.as_slice-2.ensures.value

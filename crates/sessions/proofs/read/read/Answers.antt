@@ -1,12 +1,14 @@
-use Rattle.std.proofs.Common.{length, slice_range, vec_items, ap, rules}
-use Rattle.sessions.proofs.Lines.{one_read, all_read, unread}
+use Rattle.std.proofs.Common.{rules}
+use Rattle.sessions.proofs.Lines.{first_line}
 use Rattle.sessions.proofs.read.read.Goals as goal
 
-pub loop-i-preserved : goal.loop-i-preserved
-loop-i-preserved c = one_read _ _ c.loop-i.i _ _ _ _ c.loop-i.invariant c.loop-i-test.true c.in_ok-read_line.ensures c.in_ok-push.ensures.items
-
 pub returns : goal.returns
-returns c = all_read _ _ _ (vec_items c.in_ok-lines.lines) _ c.loop-i.i c.index.result.now _ c.in_ok-lines.ensures.lines (search rules) (ap (λ l. slice_range l 1 (length l)) c.deref.ensures.value) c.index.ensures c.without_end-header.ensures c.in_ok-columns.ensures.1 c.loop-i.invariant (search rules) (search rules)
-
-pub returns-in_err-read_line : goal.returns-in_err-read_line
-returns-in_err-read_line c = let x = unread _ _ _ (vec_items c.in_ok-lines.lines) _ c.loop-i.i c.index.result.now _ c.in_ok-lines.ensures.lines (search rules) (ap (λ l. slice_range l 1 (length l)) c.deref.ensures.value) c.index.ensures c.without_end-header.ensures c.in_ok-columns.ensures.1 c.loop-i.invariant _ _ c.loop-i-test.true c.in_err-read_line.ensures in search rules
+returns c = record {
+  lines = c.as_slice.result.now;
+  lines_are = search rules;
+  columns = c.in_ok-columns.columns;
+  first = first_line c.as_slice.result.now c.index.result.now c.without_end-header.result.now (search rules) (search rules) (search rules);
+  header_read = search rules;
+  count = search rules;
+  rows_read = search rules;
+}
