@@ -4,7 +4,7 @@ use Rattle.column.specs.Fault.{number, place}
 use Rattle.column.specs.declared.fault.Fault.{Fault}
 use Rattle.replay.specs.declared.calls.Reply.TheVariants.{Answer, Done, Mark, NotTaken}
 use Rattle.replay.specs.History.{Outcome}
-use Rattle.lines.specs.Texts.{cell_text}
+use Rattle.lines.specs.Texts.{cell_text, list_text}
 
 -- a refusal by its number and place
 abbrev pub refused_text : ℕ → ℕ → List ℕ
@@ -21,6 +21,10 @@ outcome_text value_text (Err f) = refusal_text f
 outcome_text value_text (Ok Done) = codes "ok"
 outcome_text value_text (Ok (Mark n)) = decimal n
 outcome_text value_text (Ok NotTaken) = codes "no:closed"
+
+-- the answers of a call on a whole partition
+abbrev pub answers_text : {V : Type 0} → (V → List ℕ) → List (Option V) → List ℕ
+answers_text value_text answers = codes "ok:" ++ list_text (cell_text value_text) answers
 
 -- of an attempt to finish: the rows, a refusal, or that the run is not closed
 abbrev pub ending_text : Option (Result ℕ Fault) → List ℕ

@@ -36,13 +36,10 @@ fn read_form(cursor: &mut Cursor<'_>) -> Result<Form, Bad> {
     Ok(form)
 }
 
-// The row limit that a run states is the one that it has. Apart from the length of a list: the two tests differ, and one function over both would be longer.
+// The row limit that a run states is the one that it has.
 fn read_limit(cursor: &mut Cursor<'_>) -> Result<(), Bad> {
     cursor.expect(b'L')?;
-    let start = cursor.bad();
-    if cursor.number::<usize>()? != ROW_LIMIT {
-        return Err(start);
-    }
+    cursor.number_in(ROW_LIMIT..=ROW_LIMIT)?;
     Ok(())
 }
 
@@ -87,7 +84,7 @@ fn answer_at<K: Value>(heap: Global, text: &str) -> Result<String, Stop> {
     cursor.field();
     cursor.expect(b' ')?;
     let made = WindowShift::try_from(shift);
-    // by form: a run has another rest of its line than a whole partition, and a closure for each would be longer
+    // the shift stands between the form and its rest: a function kept in the form's place would want one more, for the mirror
     match form {
         Form::Whole => whole_line(heap, text, &mut cursor, made),
         Form::Mirror => whole_line(heap, text, &mut cursor, made.map(|shift| shift.mirror())),
@@ -101,7 +98,7 @@ fn answer(heap: Global, text: &str) -> Result<String, Stop> {
     read_form(&mut cursor)?;
     cursor.field();
     cursor.expect(b' ')?;
-    // by name: each chooses a type, and a table would name them all the same
+    // only a `match` gets from a name to a type
     match read_kind(&mut cursor)? {
         KindName::Instant => answer_at::<Instant>(heap, text),
         KindName::Pseudonym => answer_at::<Pseudonym>(heap, text),
