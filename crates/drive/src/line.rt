@@ -1,4 +1,7 @@
 // A line with its outcome.
+ghost use Rattle.std.specs.Prelude.{◌≡◌, ℕ, List, IfOk, IfErr, string_bytes};
+ghost use Rattle.drive.specs.Outcomes.{IsComment, TellsRefusal, line_text, refusal_text};
+
 use crate::ops::read_steps;
 use crate::outcome::Refusal;
 use crate::runs::answer_run;
@@ -48,7 +51,9 @@ fn whole_line<K: Value>(
     text: &str,
     cursor: &mut Cursor<'_>,
     made: Result<WindowShift<K>, Fault>,
-) -> Result<String, Stop> {
+) -> Result<String, Stop>
+    ensures { IfOk result (λ s. (outcome : List ℕ) × (string_bytes s ≡ line_text text.now outcome) × TellsRefusal made outcome) }
+{
     let outcome = answer_whole(heap, cursor, made)?;
     Ok(format!(in heap; "{text} = {outcome}")?)
 }
@@ -59,7 +64,9 @@ fn run_line<K: Value>(
     text: &str,
     cursor: &mut Cursor<'_>,
     made: Result<WindowShift<K>, Fault>,
-) -> Result<String, Stop> {
+) -> Result<String, Stop>
+    ensures { IfOk result (λ s. IfErr made (λ f. string_bytes s ≡ line_text text.now (refusal_text f))) }
+{
     cursor.expect(b'Z')?;
     let from_zero = bool::read(cursor)?;
     cursor.expect(b' ')?;
@@ -112,7 +119,9 @@ fn answer(heap: Global, text: &str) -> Result<String, Stop> {
 }
 
 // A line with what it found in the place of what it stated; a comment or an empty line as it is.
-pub(crate) fn answer_line(heap: Global, line: &str) -> Result<String, Stop> {
+pub(crate) fn answer_line(heap: Global, line: &str) -> Result<String, Stop>
+    ensures { IsComment line.now → IfOk result (λ s. string_bytes s ≡ line.now) }
+{
     if line.is_empty() || line.starts_with('#') {
         return Ok(String::from_str(heap, line)?);
     }

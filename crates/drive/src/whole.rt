@@ -2,7 +2,7 @@
 ghost use Rattle.std.specs.Prelude.{◌≡◌, T, length, take, IfOk, string_bytes};
 ghost use Rattle.column.specs.Cells.{column_cells};
 ghost use Rattle.drive.specs.Kept.{writable, ValuesKept, MarksKept};
-ghost use Rattle.drive.specs.Outcomes.{answers_text};
+ghost use Rattle.drive.specs.Outcomes.{TellsRefusal, answers_text};
 
 use crate::outcome::Refusal;
 use column::column::{Column, ROW_LIMIT};
@@ -132,7 +132,9 @@ pub(crate) fn answer_whole<K: Value>(
     heap: Global,
     cursor: &mut Cursor<'_>,
     made: Result<WindowShift<K>, Fault>,
-) -> Result<String, Stop> {
+) -> Result<String, Stop>
+    ensures { IfOk result (λ s. TellsRefusal made (string_bytes s)) }
+{
     let handed = read_handed::<K>(heap, cursor)?;
     // `map_or_else` would have the same two arms, the refusal first
     match made {
