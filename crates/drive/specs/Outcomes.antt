@@ -1,10 +1,11 @@
 -- The texts of outcomes.
-use Rattle.std.specs.Prelude.{ℕ, List, ◌++◌, codes, decimal, Option, Some, None, Result, Ok, Err}
+use Rattle.std.specs.Prelude.{◌≡◌, ◌==◌, ℕ, ⊤, cond, List, [], ◌∷◌, ◌++◌, codes, decimal, Option, Some, None, Result, Ok, Err, IfErr}
 use Rattle.column.specs.Fault.{number, place}
 use Rattle.column.specs.declared.fault.Fault.{Fault}
+use Rattle.column.specs.declared.fault.Fault.TheVariants.{Unanswered}
 use Rattle.replay.specs.declared.calls.Reply.TheVariants.{Answer, Done, Mark, NotTaken}
-use Rattle.replay.specs.History.{Outcome}
-use Rattle.lines.specs.Texts.{cell_text}
+use Rattle.replay.specs.History.{Outcome, Event, accepted, total_of}
+use Rattle.lines.specs.Texts.{cell_text, list_text}
 
 -- a refusal by its number and place
 abbrev pub refused_text : ℕ → ℕ → List ℕ
@@ -22,8 +23,34 @@ outcome_text value_text (Ok Done) = codes "ok"
 outcome_text value_text (Ok (Mark n)) = decimal n
 outcome_text value_text (Ok NotTaken) = codes "no:closed"
 
+-- the answers of a call on a whole partition
+abbrev pub answers_text : {V : Type 0} → (V → List ℕ) → List (Option V) → List ℕ
+answers_text value_text answers = codes "ok:" ++ list_text (cell_text value_text) answers
+
 -- of an attempt to finish: the rows, a refusal, or that the run is not closed
 abbrev pub ending_text : Option (Result ℕ Fault) → List ℕ
 ending_text (Some (Ok rows)) = codes "ok:" ++ decimal rows
 ending_text (Some (Err f)) = refusal_text f
 ending_text None = codes "no:open"
+
+-- what finishing ends in where this row is the next, and this the total of the accepted close
+abbrev pub ending_at : ℕ → Option ℕ → Option (Result ℕ Fault)
+ending_at next None = None
+ending_at next (Some total) = Some (cond (next == total) (Ok total) (Err (Unanswered next)))
+
+-- the same after a run's events
+abbrev pub ending : {V A : Type 0} → List (Event V A) → Option (Result ℕ Fault)
+ending h = ending_at (accepted h) (total_of None h)
+
+-- an empty line, or one that begins with `#`
+abbrev pub IsComment : List ℕ → Type 0
+IsComment [] = ⊤
+IsComment (b ∷ bs) = b ≡ 35
+
+-- a line: its text, and an outcome behind it
+abbrev pub line_text : List ℕ → List ℕ → List ℕ
+line_text text outcome = text ++ (codes " = " ++ outcome)
+
+-- the outcome of an evaluator that is refused is the refusal
+abbrev pub TellsRefusal : {E : Type 0} → Result E Fault → List ℕ → Type 0
+TellsRefusal made outcome = IfErr made (λ f. outcome ≡ refusal_text f)

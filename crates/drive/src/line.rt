@@ -1,4 +1,7 @@
 // A line with its outcome.
+ghost use Rattle.std.specs.Prelude.{◌≡◌, ℕ, List, IfOk, IfErr, string_bytes};
+ghost use Rattle.drive.specs.Outcomes.{IsComment, TellsRefusal, line_text, refusal_text};
+
 use crate::ops::read_steps;
 use crate::outcome::Refusal;
 use crate::runs::answer_run;
@@ -36,13 +39,10 @@ fn read_form(cursor: &mut Cursor<'_>) -> Result<Form, Bad> {
     Ok(form)
 }
 
-// The row limit that a run states is the one that it has. Apart from the length of a list: the two tests differ, and one function over both would be longer.
+// The row limit that a run states is the one that it has.
 fn read_limit(cursor: &mut Cursor<'_>) -> Result<(), Bad> {
     cursor.expect(b'L')?;
-    let start = cursor.bad();
-    if cursor.number::<usize>()? != ROW_LIMIT {
-        return Err(start);
-    }
+    cursor.number_in(ROW_LIMIT..=ROW_LIMIT)?;
     Ok(())
 }
 
@@ -51,7 +51,9 @@ fn whole_line<K: Value>(
     text: &str,
     cursor: &mut Cursor<'_>,
     made: Result<WindowShift<K>, Fault>,
-) -> Result<String, Stop> {
+) -> Result<String, Stop>
+    ensures { IfOk result (λ s. (outcome : List ℕ) × (string_bytes s ≡ line_text text.now outcome) × TellsRefusal made outcome) }
+{
     let outcome = answer_whole(heap, cursor, made)?;
     Ok(format!(in heap; "{text} = {outcome}")?)
 }
@@ -62,7 +64,9 @@ fn run_line<K: Value>(
     text: &str,
     cursor: &mut Cursor<'_>,
     made: Result<WindowShift<K>, Fault>,
-) -> Result<String, Stop> {
+) -> Result<String, Stop>
+    ensures { IfOk result (λ s. IfErr made (λ f. string_bytes s ≡ line_text text.now (refusal_text f))) }
+{
     cursor.expect(b'Z')?;
     let from_zero = bool::read(cursor)?;
     cursor.expect(b' ')?;
@@ -87,7 +91,7 @@ fn answer_at<K: Value>(heap: Global, text: &str) -> Result<String, Stop> {
     cursor.field();
     cursor.expect(b' ')?;
     let made = WindowShift::try_from(shift);
-    // by form: a run has another rest of its line than a whole partition, and a closure for each would be longer
+    // the shift stands between the form and its rest: a function kept in the form's place would want one more, for the mirror
     match form {
         Form::Whole => whole_line(heap, text, &mut cursor, made),
         Form::Mirror => whole_line(heap, text, &mut cursor, made.map(|shift| shift.mirror())),
@@ -101,7 +105,7 @@ fn answer(heap: Global, text: &str) -> Result<String, Stop> {
     read_form(&mut cursor)?;
     cursor.field();
     cursor.expect(b' ')?;
-    // by name: each chooses a type, and a table would name them all the same
+    // only a `match` gets from a name to a type
     match read_kind(&mut cursor)? {
         KindName::Instant => answer_at::<Instant>(heap, text),
         KindName::Pseudonym => answer_at::<Pseudonym>(heap, text),
@@ -115,7 +119,9 @@ fn answer(heap: Global, text: &str) -> Result<String, Stop> {
 }
 
 // A line with what it found in the place of what it stated; a comment or an empty line as it is.
-pub(crate) fn answer_line(heap: Global, line: &str) -> Result<String, Stop> {
+pub(crate) fn answer_line(heap: Global, line: &str) -> Result<String, Stop>
+    ensures { IsComment line.now → IfOk result (λ s. string_bytes s ≡ line.now) }
+{
     if line.is_empty() || line.starts_with('#') {
         return Ok(String::from_str(heap, line)?);
     }

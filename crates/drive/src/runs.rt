@@ -1,7 +1,9 @@
 // A run, with the calls that a line makes on it.
-ghost use Rattle.std.specs.Prelude.{◌≡◌, length, Some, IfOk, vec_len};
+ghost use Rattle.std.specs.Prelude.{◌≡◌, List, length, Some, IfOk, vec_len};
 ghost use Rattle.drive.specs.Calls.{Stands, AllStand};
-ghost use Rattle.drive.specs.Outcomes.{ending_text, outcome_text};
+ghost use Rattle.drive.specs.Outcomes.{ending, ending_text, outcome_text};
+ghost use Rattle.replay.specs.History.{Replayed, history};
+ghost use Rattle.replay.specs.declared.calls.Entry.{Entry};
 
 use crate::ops::{Op, Request, Step};
 use crate::outcome::Refusal;
@@ -13,6 +15,7 @@ use lines::stop::Stop;
 use lines::text::{Shown, Text, Value};
 use replay::calls::{Call, Reply};
 use replay::replay::{Played, replay};
+use run::rows::RowEvaluator;
 use run::run::Run;
 use std::alloc::{AllocError, Global};
 use std::fmt;
@@ -85,13 +88,15 @@ fn calls_of<'a, K: Kind>(
 }
 
 // Finishes a new run after the calls.
-fn finish<K: Value>(
+fn finish<E: RowEvaluator + Drop>(
     heap: Global,
-    shift: &WindowShift<K>,
+    evaluator: &E,
     from_zero: bool,
-    calls: &[Call<'_, K>],
-) -> Result<Ending, AllocError> {
-    let Played { run, entries } = replay(heap, shift, from_zero, calls)?;
+    calls: &[Call<'_, E::Value>],
+) -> Result<Ending, AllocError>
+    ensures { IfOk result (λ e. (entries : List (Entry E.Answer)) × Replayed E.Evaluator.meaning evaluator.now E.Evaluator.WANTS_FRAMES from_zero (history calls.now entries) × (e.0 ≡ ending (history calls.now entries))) }
+{
+    let Played { run, entries } = replay(heap, evaluator, from_zero, calls)?;
     drop(entries);
     match run {
         Run::Opened(_) => Ok(Ending(None)),

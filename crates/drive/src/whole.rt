@@ -1,11 +1,12 @@
 // A call on a whole partition.
-ghost use Rattle.std.specs.Prelude.{◌≡◌, T, length};
+ghost use Rattle.std.specs.Prelude.{◌≡◌, T, length, take, IfOk, string_bytes};
+ghost use Rattle.column.specs.Cells.{column_cells};
 ghost use Rattle.drive.specs.Kept.{writable, ValuesKept, MarksKept};
+ghost use Rattle.drive.specs.Outcomes.{TellsRefusal, answers_text};
 
 use crate::outcome::Refusal;
-use column::column::ROW_LIMIT;
+use column::column::{Column, ROW_LIMIT};
 use column::fault::Fault;
-use column::kind::Kind;
 use evaluator::cells::evaluate_cells;
 use lead_lag::WindowShift;
 use lines::columns::{Lists, read_column, read_spans};
@@ -28,12 +29,7 @@ struct Handed<K> {
 
 // The length of an output list, at most as many as a partition has rows.
 fn read_length(cursor: &mut Cursor<'_>) -> Result<usize, Bad> {
-    let start = cursor.bad();
-    let length = cursor.number::<usize>()?;
-    if length > ROW_LIMIT {
-        return Err(start);
-    }
-    Ok(length)
+    cursor.number_in(0..=ROW_LIMIT)
 }
 
 fn read_handed<K: Value>(heap: Global, cursor: &mut Cursor<'_>) -> Result<Handed<K>, Stop> {
@@ -57,41 +53,46 @@ fn read_handed<K: Value>(heap: Global, cursor: &mut Cursor<'_>) -> Result<Handed
     })
 }
 
-// Whether a call with so many answers may write the value of row `i`: NULL is written as a mark alone.
-fn is_writable(marks: &[bool], answers: usize, i: usize) -> bool
-    ensures { result ≡ writable marks.now answers i }
-{
-    i < answers && marks.get(i) == Some(&true)
-}
-
-// Whether the values that the call must not touch hold the pattern; a `zip` would pass over those behind the last mark.
-fn values_kept<K: Kind>(pattern: K, values: &[K], marks: &[bool], answers: usize) -> bool
-    ensures { T result → ValuesKept K.Kind.same pattern values.now marks.now answers (length values.now) }
-{
-    values.iter().enumerate().all(|(i, value)| is_writable(marks, answers, i)
-        || value.same(&pattern))
-}
-
-// Whether the marks past the answers are true.
-fn marks_kept(marks: &[bool], answers: usize) -> bool
-    ensures { T result → MarksKept marks.now answers (length marks.now) }
-{
-    marks.iter().skip(answers).all(|mark| *mark)
-}
-
-fn show_answers<K: Value>(
-    heap: Global,
-    values: &[K],
-    marks: &[bool],
+// The output lists after a call, and how many answers it gave.
+#[derive(Clone, Copy)]
+struct Output<'a, K> {
+    lists: Column<'a, K>,
     answers: usize,
-) -> Result<String, AllocError> {
-    let cells = values
-        .iter()
-        .zip(marks.iter())
-        .take(answers)
-        .map(|(value, mark)| mark.then_some(*value))
-        .collect::<Vec<Option<K>>>(heap)?;
-    format!(in heap; "ok:{}", ShownList(cells.as_slice()))
+}
+
+impl<K: Value> Output<'_, K> {
+    // Whether the call may write the value of row `i`: NULL is written as a mark alone.
+    fn is_writable(&self, i: usize) -> bool
+        ensures { result ≡ writable self.now.lists.marks.now self.now.answers i }
+    {
+        i < self.answers && self.lists.marks.get(i) == Some(&true)
+    }
+
+    // Whether the values that the call must not touch hold the pattern; a `zip` would pass over those behind the last mark.
+    fn values_kept(&self, pattern: K) -> bool
+        ensures { T result → ValuesKept K.Kind.same pattern self.now.lists.values.now self.now.lists.marks.now self.now.answers (length self.now.lists.values.now) }
+    {
+        self.lists
+            .values
+            .iter()
+            .enumerate()
+            .all(|(i, value)| self.is_writable(i) || value.same(&pattern))
+    }
+
+    // Whether the marks past the answers are true.
+    fn marks_kept(&self) -> bool
+        ensures { T result → MarksKept self.now.lists.marks.now self.now.answers (length self.now.lists.marks.now) }
+    {
+        self.lists.marks.iter().skip(self.answers).all(|mark| *mark)
+    }
+
+    fn show(&self, heap: Global) -> Result<String, AllocError>
+        ensures { IfOk result (λ s. string_bytes s ≡ answers_text K.Text.text (take self.now.answers (column_cells self.now.lists))) }
+    {
+        let mut cells = self.lists.to_cells(heap)?;
+        cells.truncate(self.answers);
+        format!(in heap; "ok:{}", ShownList(cells.as_slice()))
+    }
 }
 
 // The call on output lists that hold the pattern.
@@ -100,7 +101,8 @@ fn call<K: Value>(
     shift: &WindowShift<K>,
     handed: &Handed<K>,
 ) -> Result<String, AllocError> {
-    let mut values = vec![in heap; K::pattern(); handed.values]?;
+    let pattern = K::pattern();
+    let mut values = vec![in heap; pattern; handed.values]?;
     let mut marks = vec![in heap; true; handed.marks]?;
     let rows = WholePartition::new(
         handed.column.values.as_slice(),
@@ -108,17 +110,19 @@ fn call<K: Value>(
         handed.frames.as_slice(),
         handed.groups.as_slice(),
     );
-    let made = evaluate_cells(shift, &rows, values.as_mut_slice(), marks.as_mut_slice()).map(
-        |()| rows.column.values.len(),
-    );
-    let answers = made.unwrap_or(0);
-    if !values_kept(K::pattern(), values.as_slice(), marks.as_slice(), answers)
-        || !marks_kept(marks.as_slice(), answers)
-    {
+    let made = evaluate_cells(shift, &rows, values.as_mut_slice(), marks.as_mut_slice());
+    let output = Output {
+        lists: Column {
+            values: values.as_slice(),
+            marks: marks.as_slice(),
+        },
+        answers: made.map_or(0, |()| rows.column.values.len()),
+    };
+    if !output.values_kept(pattern) || !output.marks_kept() {
         return String::from_str(heap, "clobbered");
     }
     match made {
-        Ok(_) => show_answers(heap, values.as_slice(), marks.as_slice(), answers),
+        Ok(()) => output.show(heap),
         Err(fault) => Refusal(fault).to_string(heap),
     }
 }
@@ -128,9 +132,11 @@ pub(crate) fn answer_whole<K: Value>(
     heap: Global,
     cursor: &mut Cursor<'_>,
     made: Result<WindowShift<K>, Fault>,
-) -> Result<String, Stop> {
+) -> Result<String, Stop>
+    ensures { IfOk result (λ s. TellsRefusal made (string_bytes s)) }
+{
     let handed = read_handed::<K>(heap, cursor)?;
-    // both arms can fail, each in its own way, so that no combinator is plainer
+    // `map_or_else` would have the same two arms, the refusal first
     match made {
         Ok(shift) => Ok(call(heap, &shift, &handed)?),
         Err(fault) => Ok(Refusal(fault).to_string(heap)?),

@@ -3,10 +3,13 @@
 ghost use Rattle.std.specs.Prelude.{◌≡◌, ◌≢◌, ℕ, [], ◌∷◌, ◌+◌, ◌-◌, ◌<◌, ◌≤◌, T, false, true, length, IfOk, if◌then◌else◌, Ok, OnOk, nat_le, slice_get, slice_index, slice_range};
 ghost use Rattle.std.specs.Int.{IsInRange};
 ghost use Rattle.std.specs.Str.{IsCharBoundary};
+ghost use Rattle.std.specs.Range.{range_inclusive_start, range_inclusive_end};
 ghost use Rattle.lines.specs.Cursors.{Onward, passed};
+ghost use Rattle.lines.specs.Reads.{ReadsUnsigned};
 
 use crate::cursor::Cursor;
 use crate::stop::Bad;
+use std::ops::RangeInclusive;
 use std::str::FromStr;
 
 // Where the first byte from a place on stands that fails a test, or the end.
@@ -113,6 +116,20 @@ impl<'a> Cursor<'a> {
         let n = digits.parse::<N>().map_err(|_| start)?;
         self.at = end;
         Ok(n)
+    }
+
+    // A number that lies in a range.
+    pub fn number_in(&mut self, range: RangeInclusive<usize>) -> Result<usize, Bad>
+        ensures within { IfOk result (λ n. (range_inclusive_start range ≤ n) × (n ≤ range_inclusive_end range)) }
+        ensures reads { IfOk result (λ n. ReadsUnsigned (passed self.old self.new) n) }
+        ensures onward { Onward self.old self.new }
+    {
+        let start = self.bad();
+        let n = self.number::<usize>()?;
+        if range.contains(&n) {
+            return Ok(n);
+        }
+        Err(start)
     }
 
     // The text up to the first byte that fails a test.

@@ -1,6 +1,7 @@
-ghost use Rattle.std.specs.Prelude.{◌++◌, Some, codes, decimal};
+ghost use Rattle.std.specs.Prelude.{◌≡◌, ◌++◌, Some, codes, decimal};
+ghost use Rattle.lines.specs.declared.stop.Stop.TheVariants.{Unread, Memory};
 
-use std::alloc::{AllocError, AllocFailed};
+use std::alloc::AllocError;
 use std::fmt;
 
 // The column, from 1, at which a line cannot be read.
@@ -25,19 +26,19 @@ pub enum Stop {
 }
 
 impl From<Bad> for Stop {
+    ghost from_gives = { λ b r. r ≡ Unread b };
+
     fn from(bad: Bad) -> Stop {
         Stop::Unread(bad)
     }
 }
 
-impl From<AllocError> for Stop {
-    fn from(_e: AllocError) -> Stop {
-        Stop::Memory
-    }
-}
+// Either of std's errors for want of memory.
+impl<E: Into<AllocError>> From<E> for Stop {
+    ghost from_gives = { λ _ r. r ≡ Memory };
 
-impl<T: Drop> From<AllocFailed<T>> for Stop {
-    fn from(_e: AllocFailed<T>) -> Stop {
+    fn from(e: E) -> Stop {
+        let AllocError = e.into();
         Stop::Memory
     }
 }

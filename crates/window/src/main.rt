@@ -7,17 +7,18 @@ use std::{env, fs, io};
 
 const INPUT: &str = "-";
 
-fn text_of(rt: &HostRuntime, name: &str) -> io::Result<String> {
-    if name == INPUT {
-        io::read_to_string(rt.alloc(), rt.stdin())
-    } else {
-        fs::read_to_string(rt, name)
+// The same stands in `drive`: a crate for this function alone would be longer than it.
+fn text_of(rt: &HostRuntime, file: Option<&str>) -> io::Result<String> {
+    match file {
+        Some(file) => fs::read_to_string(rt, file),
+        None => io::read_to_string(rt.alloc(), rt.stdin()),
     }
 }
 
-// Each `match` prints what failed beside the name, and a `?` would hand it up without.
-fn run(rt: &HostRuntime, name: &str) -> io::Result<ExitCode> {
-    let text = match text_of(rt, name) {
+// Each `match` prints what failed beside the name: for a `?` one error would have to own both texts, where a refusal lends from its input.
+fn run(rt: &HostRuntime, file: Option<&str>) -> io::Result<ExitCode> {
+    let name = file.unwrap_or(INPUT);
+    let text = match text_of(rt, file) {
         Ok(text) => text,
         Err(e) => {
             eprintln!(rt; "{name}: {e}")?;
@@ -43,5 +44,5 @@ fn main(rt: HostRuntime) -> io::Result<ExitCode> {
         eprintln!(rt; "usage: window [FILE]")?;
         return Ok(ExitCode::FAILURE);
     }
-    run(&rt, first.as_deref().unwrap_or(INPUT))
+    run(&rt, first.as_deref().filter(|file| *file != INPUT))
 }
