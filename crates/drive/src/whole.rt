@@ -114,6 +114,7 @@ fn call<K: Value>(
         handed.groups.as_slice(),
     );
     let made = evaluate_cells(shift, &rows, values.as_mut_slice(), marks.as_mut_slice());
+    // an `if`: the closure of a `map_or` that holds these rows gets no clause
     let answers = if made.is_ok() {
         rows.column.values.len()
     } else {
