@@ -1,3 +1,4 @@
 pub mod Calls
 pub mod Kept
 pub mod Outcomes
+pub mod Whole

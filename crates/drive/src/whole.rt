@@ -3,6 +3,7 @@ ghost use Rattle.std.specs.Prelude.{◌≡◌, T, length, take, IfOk, string_byt
 ghost use Rattle.column.specs.Cells.{column_cells};
 ghost use Rattle.drive.specs.Kept.{writable, ValuesKept, MarksKept};
 ghost use Rattle.drive.specs.Outcomes.{TellsRefusal, answers_text};
+ghost use Rattle.drive.specs.Whole.{TellsWhole};
 
 use crate::outcome::Refusal;
 use column::column::{Column, ROW_LIMIT};
@@ -100,7 +101,9 @@ fn call<K: Value>(
     heap: Global,
     shift: &WindowShift<K>,
     handed: &Handed<K>,
-) -> Result<String, AllocError> {
+) -> Result<String, AllocError>
+    ensures { IfOk result (λ s. TellsWhole K.Kind.same K.Text.text shift.now handed.now (string_bytes s)) }
+{
     let pattern = K::pattern();
     let mut values = vec![in heap; pattern; handed.values]?;
     let mut marks = vec![in heap; true; handed.marks]?;
@@ -111,12 +114,18 @@ fn call<K: Value>(
         handed.groups.as_slice(),
     );
     let made = evaluate_cells(shift, &rows, values.as_mut_slice(), marks.as_mut_slice());
+    // an `if`: the closure of a `map_or` that holds these rows gets no clause
+    let answers = if made.is_ok() {
+        rows.column.values.len()
+    } else {
+        0
+    };
     let output = Output {
         lists: Column {
             values: values.as_slice(),
             marks: marks.as_slice(),
         },
-        answers: made.map_or(0, |()| rows.column.values.len()),
+        answers,
     };
     if !output.values_kept(pattern) || !output.marks_kept() {
         return String::from_str(heap, "clobbered");
