@@ -2,7 +2,7 @@ ghost use Rattle.std.specs.Prelude.{◌≡◌};
 ghost use Rattle.sessions.specs.declared.problem.Refusal.TheVariants.{Memory as NoMemory, At};
 ghost use Rattle.sessions.specs.declared.problem.Unanswered.TheVariants.{Memory};
 
-use std::alloc::{AllocError, AllocFailed};
+use std::alloc::AllocError;
 use std::fmt;
 
 // What is wrong with an input.
@@ -37,18 +37,12 @@ pub enum Unanswered {
     TooMany { record: usize },
 }
 
-impl From<AllocError> for Unanswered {
+// Either of std's errors for want of memory.
+impl<E: Into<AllocError>> From<E> for Unanswered {
     ghost from_gives = { λ _ r. r ≡ Memory };
 
-    fn from(_e: AllocError) -> Unanswered {
-        Unanswered::Memory
-    }
-}
-
-impl<T: Drop> From<AllocFailed<T>> for Unanswered {
-    ghost from_gives = { λ _ r. r ≡ Memory };
-
-    fn from(_e: AllocFailed<T>) -> Unanswered {
+    fn from(e: E) -> Unanswered {
+        let AllocError = e.into();
         Unanswered::Memory
     }
 }
@@ -61,10 +55,11 @@ pub enum Refusal<'a> {
     At { line: usize, problem: Problem<'a> },
 }
 
-impl<'a> From<AllocError> for Refusal<'a> {
+impl<'a, E: Into<AllocError>> From<E> for Refusal<'a> {
     ghost from_gives = { λ _ r. r ≡ NoMemory };
 
-    fn from(_e: AllocError) -> Refusal<'a> {
+    fn from(e: E) -> Refusal<'a> {
+        let AllocError = e.into();
         Refusal::Memory
     }
 }
