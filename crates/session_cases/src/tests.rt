@@ -1,3 +1,4 @@
+use column::column::ROW_LIMIT;
 use sessions::report::report;
 use std::alloc::{AllocError, Global};
 use std::process::Abort;
@@ -98,5 +99,20 @@ fn bad_records(rt: HostRuntime) -> Result<(), Fail> {
         heap,
         "session,instant,renewed_expiry\na\"b,1,2\n",
         "2: a double quote: quoted fields are not read",
+    )
+}
+
+#[test]
+fn full_session(rt: HostRuntime) -> Result<(), Fail> {
+    let heap = rt.alloc();
+    let mut text = String::from_str(heap, "session,instant,renewed_expiry\n")?;
+    for _ in 0..=ROW_LIMIT {
+        text.push_str("a,1,\n")?;
+    }
+    says(
+        &rt,
+        heap,
+        text.as_str(),
+        "16777218: session \"a\" has more than 16777216 records",
     )
 }
