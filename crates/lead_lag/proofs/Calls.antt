@@ -119,8 +119,8 @@ module _ {V : Type 0} (e : WindowShift V) (i : ℕ) (w : Window V) (frame : Fram
   answer_is y =
       taken_same (view w) (at p.rows) e.default_value source (λ r s. let b = source_low way ignoring e.held p.rows (view w) i (end_of w) (way_proper e.shift_offset) q.stands l r s in agree r (omega (arith, h.kept, b.0)) b.1) ∙ ap (taken (at p.rows) e.default_value) (source_whole y)
 
-  stands_on : Holding way ignoring (held_after way ignoring e.held (view w) i) p.rows (i + 1)
-  stands_on = holds_after way ignoring e.held p.rows i (view w) (way_proper e.shift_offset) (omega (arith, l, h.limited)) q.stands (λ k u v. agree k (omega (arith, h.kept)) (omega (arith, l)))
+  stands_on : Holding way ignoring (held_after way ignoring e.held (view w) i (i + 1)) p.rows (i + 1)
+  stands_on = holds_after way ignoring e.held p.rows i (view w) (way_proper e.shift_offset) q.stands (λ k u v. agree k (omega (arith, h.kept)) (omega (arith, l)))
 
 -- a row call that is too early
 pub early : {V : Type 0} (e : WindowShift V) (i : ℕ) (w : Window V) (frame : Frame) (known : Bool) → Handed false (shift_meaning e).keep w frame known → i < end_of w → waits (way_of e.shift_offset) (source_by (way_of e.shift_offset) e.ignore_nulls e.held (view w) i (end_of w)) known ≡ true → RowCall shift_meaning false i w frame known e e (Err (TooEarly i))
@@ -132,12 +132,12 @@ early e i w frame known h l y = record {
 }
 
 -- a row call that answers
-pub answers : {V : Type 0} (e : WindowShift V) (i : ℕ) (w : Window V) (frame : Frame) (known : Bool) → Handed false (shift_meaning e).keep w frame known → i < end_of w → waits (way_of e.shift_offset) (source_by (way_of e.shift_offset) e.ignore_nulls e.held (view w) i (end_of w)) known ≡ false → (x : Option V) → x ≡ taken (view w) e.default_value (source_by (way_of e.shift_offset) e.ignore_nulls e.held (view w) i (end_of w)) → (h' : Held) → h' ≡ held_after (way_of e.shift_offset) e.ignore_nulls e.held (view w) i → RowCall shift_meaning false i w frame known e (record { shift_offset = e.shift_offset; ignore_nulls = e.ignore_nulls; default_value = e.default_value; held = h' }) (Ok x)
+pub answers : {V : Type 0} (e : WindowShift V) (i : ℕ) (w : Window V) (frame : Frame) (known : Bool) → Handed false (shift_meaning e).keep w frame known → i < end_of w → waits (way_of e.shift_offset) (source_by (way_of e.shift_offset) e.ignore_nulls e.held (view w) i (end_of w)) known ≡ false → (x : Option V) → x ≡ taken (view w) e.default_value (source_by (way_of e.shift_offset) e.ignore_nulls e.held (view w) i (end_of w)) → (h' : Held) → h' ≡ held_after (way_of e.shift_offset) e.ignore_nulls e.held (view w) i (i + 1) → RowCall shift_meaning false i w frame known e (record { shift_offset = e.shift_offset; ignore_nulls = e.ignore_nulls; default_value = e.default_value; held = h' }) (Ok x)
 answers {V} e i w frame known h l y x ex h' eh =
     let e' : WindowShift V = record { shift_offset = e.shift_offset; ignore_nulls = e.ignore_nulls; default_value = e.default_value; held = h' } in
     record {
       alike = alike e h';
-      mark = subst (λ (k : Held). mark_of (way_of e.shift_offset) e.ignore_nulls e.held ≤ mark_of (way_of e.shift_offset) e.ignore_nulls k) (sym eh) (mark_rises (way_of e.shift_offset) e.ignore_nulls e.held (view w) i);
+      mark = subst (λ (k : Held). mark_of (way_of e.shift_offset) e.ignore_nulls e.held ≤ mark_of (way_of e.shift_offset) e.ignore_nulls k) (sym eh) (mark_rises (way_of e.shift_offset) e.ignore_nulls e.held (view w) i (i + 1));
       outcome = l;
       given = λ p q. given_ok (shift_meaning e) (shift_meaning e') p i _ x (settled e i w frame known h l p q y) (ex ∙ answer_is e i w frame known h l p q y) (subst (λ (k : Held). Holding (way_of e.shift_offset) e.ignore_nulls k p.rows (i + 1)) (sym eh) (stands_on e i w frame known h l p q));
     }
@@ -157,5 +157,5 @@ module _ {V : Type 0} (e : WindowShift V) (i : ℕ) (w : Window V) (frame : Fram
   pub early_by : b ≡ true → RowCall shift_meaning false i w frame known e e (Err (TooEarly i))
   early_by y = early e i w frame known h l (sym waits_at ∙ y)
 
-  pub answers_by : b ≡ false → (x : Option V) → x ≡ taken (view w) e.default_value s → (h' : Held) → h' ≡ held_after z.way z.ignore_nulls e.held (view w) i → RowCall shift_meaning false i w frame known e (record { shift_offset = e.shift_offset; ignore_nulls = e.ignore_nulls; default_value = e.default_value; held = h' }) (Ok x)
-  answers_by y x ex h' eh = answers e i w frame known h l (sym waits_at ∙ y) x (ex ∙ ap (taken (view w) e.default_value) source_at) h' (eh ∙ ap (λ (k : Look). held_after k.way k.ignore_nulls e.held (view w) i) ez)
+  pub answers_by : b ≡ false → (x : Option V) → x ≡ taken (view w) e.default_value s → (h' : Held) → h' ≡ held_after z.way z.ignore_nulls e.held (view w) i (i + 1) → RowCall shift_meaning false i w frame known e (record { shift_offset = e.shift_offset; ignore_nulls = e.ignore_nulls; default_value = e.default_value; held = h' }) (Ok x)
+  answers_by y x ex h' eh = answers e i w frame known h l (sym waits_at ∙ y) x (ex ∙ ap (taken (view w) e.default_value) source_at) h' (eh ∙ ap (λ (k : Look). held_after k.way k.ignore_nulls e.held (view w) i (i + 1)) ez)

@@ -9,7 +9,6 @@ use Rattle.present.specs.declared.held.Held.{Held}
 use Rattle.lead_lag.specs.declared.offset.Way.{Way}
 use Rattle.lead_lag.specs.declared.offset.Way.TheVariants.{Ahead}
 use Rattle.present.specs.Present.{at, ahead}
-use Rattle.present.specs.Counting.{last_row}
 use Rattle.lead_lag.specs.Shift.{Proper, taken, shifted, Holding}
 use Rattle.lead_lag.specs.Steps.{source_by, held_after}
 use Rattle.present.proofs.Ahead.{ahead-same}
@@ -32,8 +31,8 @@ module _ {V : Type 0} (c : Column V) where
   pub held_answer : (way : Way) (ignoring : Bool) (d : Option V) (h : Held) (n i : ℕ) (s : Option ℕ) (x : Option V) → Proper way → length rows ≡ n → i < n → Holding way ignoring h rows i → s ≡ source_by way ignoring h (view all) i n → x ≡ taken (view all) d s → x ≡ shifted way ignoring d rows i
   held_answer way ignoring d h n i s x p e l a q r = r ∙ taken_all d s ∙ ap (taken (at rows) d) (q ∙ source_seen way ignoring h rows rows (view all) i n p a l e (record { shorter = omega arith; same = λ k u. refl }) (λ k u v. view-all c k))
 
-  pub held_on : (way : Way) (ignoring : Bool) (h h' : Held) (i : ℕ) → Proper way → i < last_row → Holding way ignoring h rows i → h' ≡ held_after way ignoring h (view all) i → Holding way ignoring h' rows (i + 1)
-  held_on way ignoring h h' i p l a e = subst (λ (x : Held). Holding way ignoring x rows (i + 1)) (sym e) (holds_after way ignoring h rows i (view all) p l a (λ k u v. view-all c k))
+  pub held_on : (way : Way) (ignoring : Bool) (h h' : Held) (i : ℕ) → Proper way → Holding way ignoring h rows i → h' ≡ held_after way ignoring h (view all) i (i + 1) → Holding way ignoring h' rows (i + 1)
+  held_on way ignoring h h' i p a e = subst (λ (x : Held). Holding way ignoring x rows (i + 1)) (sym e) (holds_after way ignoring h rows i (view all) p a (λ k u v. view-all c k))
 
   -- looking ahead, ignoring NULLs
   pub ahead_answer : (m : ℕ) (d : Option V) (n i : ℕ) (s : Option ℕ) (x : Option V) → n ≡ length rows → s ≡ slice_get (ahead (view all) (i + 1) (n - (i + 1))) (m - 1) → x ≡ taken (view all) d s → x ≡ shifted (Ahead m) true d rows i

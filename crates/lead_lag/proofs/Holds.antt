@@ -6,7 +6,7 @@ use Rattle.present.specs.declared.held.Held.{Held}
 use Rattle.lead_lag.specs.declared.offset.Way.{Way}
 use Rattle.lead_lag.specs.declared.offset.Way.TheVariants.{Own, Back, Ahead}
 use Rattle.present.specs.Present.{at}
-use Rattle.present.specs.Counting.{start, Counting, last_row, counted_row}
+use Rattle.present.specs.Counting.{start, Counting, counted_row}
 use Rattle.present.proofs.Counting.{start_counts, counted-mark, mark_low, counts_next, mark_grows}
 use Rattle.lead_lag.specs.Shift.{Proper, mark_of, Holding}
 use Rattle.lead_lag.specs.Steps.{held_after}
@@ -26,25 +26,25 @@ mark_below (Back m) false h rows i p d = omega (arith, d.next_row)
 mark_below (Back m) true h rows i p d = mark_low m h rows i p d.counts
 
 -- one row on, by a window that shows the rows from the mark to row i
-pub holds_on : {V : Type 0} (m : ℕ) (h : Held) (rows : List (Option V)) (i : ℕ) (f : ℕ → Option V) → 0 < m → i < last_row → Holding (Back m) true h rows i → ((k : ℕ) → mark_of (Back m) true h ≤ k → k ≤ i → f k ≡ at rows k) → Holding (Back m) true (counted_row m h f i) rows (i + 1)
-holds_on m h rows i f p l d agree =
-    let c : Counting m (counted_row m h f i) rows (i + 1) = counts_next m h rows i f p l d.counts agree in
+pub holds_on : {V : Type 0} (m : ℕ) (h : Held) (rows : List (Option V)) (i : ℕ) (f : ℕ → Option V) → 0 < m → Holding (Back m) true h rows i → ((k : ℕ) → mark_of (Back m) true h ≤ k → k ≤ i → f k ≡ at rows k) → Holding (Back m) true (counted_row m h f i (i + 1)) rows (i + 1)
+holds_on m h rows i f p d agree =
+    let c : Counting m (counted_row m h f i (i + 1)) rows (i + 1) = counts_next m h rows i f p d.counts agree in
     record {
       next_row = omega (arith, d.next_row);
-      mark = counted-mark m (counted_row m h f i) rows (i + 1) p c;
+      mark = counted-mark m (counted_row m h f i (i + 1)) rows (i + 1) p c;
       counts = c;
     }
 
 -- one row on, whatever the way
-pub holds_after : {V : Type 0} (way : Way) (ignoring : Bool) (h : Held) (rows : List (Option V)) (i : ℕ) (f : ℕ → Option V) → Proper way → i < last_row → Holding way ignoring h rows i → ((k : ℕ) → mark_of way ignoring h ≤ k → k ≤ i → f k ≡ at rows k) → Holding way ignoring (held_after way ignoring h f i) rows (i + 1)
-holds_after Own ignoring h rows i f p l d agree = record { next_row = omega (arith, d.next_row); mark = omega (arith, d.next_row); counts = tt }
-holds_after (Ahead m) ignoring h rows i f p l d agree = record { next_row = omega (arith, d.next_row); mark = omega (arith, d.next_row); counts = tt }
-holds_after (Back m) false h rows i f p l d agree = record { next_row = omega (arith, d.next_row); mark = omega (arith, d.next_row); counts = tt }
-holds_after (Back m) true h rows i f p l d agree = holds_on m h rows i f p l d agree
+pub holds_after : {V : Type 0} (way : Way) (ignoring : Bool) (h : Held) (rows : List (Option V)) (i : ℕ) (f : ℕ → Option V) → Proper way → Holding way ignoring h rows i → ((k : ℕ) → mark_of way ignoring h ≤ k → k ≤ i → f k ≡ at rows k) → Holding way ignoring (held_after way ignoring h f i (i + 1)) rows (i + 1)
+holds_after Own ignoring h rows i f p d agree = record { next_row = omega (arith, d.next_row); mark = omega (arith, d.next_row); counts = tt }
+holds_after (Ahead m) ignoring h rows i f p d agree = record { next_row = omega (arith, d.next_row); mark = omega (arith, d.next_row); counts = tt }
+holds_after (Back m) false h rows i f p d agree = record { next_row = omega (arith, d.next_row); mark = omega (arith, d.next_row); counts = tt }
+holds_after (Back m) true h rows i f p d agree = holds_on m h rows i f p d agree
 
 -- the mark never falls, whatever is shown
-pub mark_rises : {V : Type 0} (way : Way) (ignoring : Bool) (h : Held) (f : ℕ → Option V) (i : ℕ) → mark_of way ignoring h ≤ mark_of way ignoring (held_after way ignoring h f i)
-mark_rises Own ignoring h f i = omega arith
-mark_rises (Ahead m) ignoring h f i = omega arith
-mark_rises (Back m) false h f i = omega arith
-mark_rises (Back m) true h f i = mark_grows m h f i
+pub mark_rises : {V : Type 0} (way : Way) (ignoring : Bool) (h : Held) (f : ℕ → Option V) (i n : ℕ) → mark_of way ignoring h ≤ mark_of way ignoring (held_after way ignoring h f i n)
+mark_rises Own ignoring h f i n = omega arith
+mark_rises (Ahead m) ignoring h f i n = omega arith
+mark_rises (Back m) false h f i n = omega arith
+mark_rises (Back m) true h f i n = mark_grows m h f i n

@@ -30,16 +30,16 @@ waits Own source known = false
 waits (Back m) source known = false
 waits (Ahead m) source known = not known && not (is_some source)
 
--- what is held after row i
-abbrev pub held_after : {V : Type 0} → Way → Bool → Held → (ℕ → Option V) → ℕ → Held
-held_after Own ignoring h cell i = passed h i
-held_after (Ahead m) ignoring h cell i = passed h i
-held_after (Back m) false h cell i = passed h i
-held_after (Back m) true h cell i = counted_row m h cell i
+-- what is held at row n, after row i
+abbrev pub held_after : {V : Type 0} → Way → Bool → Held → (ℕ → Option V) → ℕ → ℕ → Held
+held_after Own ignoring h cell i n = passed h n
+held_after (Ahead m) ignoring h cell i n = passed h n
+held_after (Back m) false h cell i n = passed h n
+held_after (Back m) true h cell i n = counted_row m h cell i n
 
 -- what an accepted row call leaves of a shift
 abbrev pub shift_stepped : {V : Type 0} → WindowShift V → ℕ → Window V → Frame → WindowShift V
-shift_stepped e i w f = record { shift_offset = e.shift_offset; ignore_nulls = e.ignore_nulls; default_value = e.default_value; held = held_after (way_of e.shift_offset) e.ignore_nulls e.held (view w) i }
+shift_stepped e i w f = record { shift_offset = e.shift_offset; ignore_nulls = e.ignore_nulls; default_value = e.default_value; held = held_after (way_of e.shift_offset) e.ignore_nulls e.held (view w) i (i + 1) }
 
 -- settling leaves a shift as it was
 abbrev pub shift_settling : {V : Type 0} → WindowShift V → ℕ → Frame → WindowShift V

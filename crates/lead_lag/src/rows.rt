@@ -2,6 +2,7 @@
 // `evaluate` as a row call that is told its window and refuses a row that is too early.
 ghost use Rattle.std.specs.Prelude.{◌≡◌};
 ghost use Rattle.column.specs.Cells.{view};
+ghost use Rattle.present.specs.Counting.{row_after};
 ghost use Rattle.lead_lag.specs.Shift.{row_off, taken, mark_of};
 ghost use Rattle.lead_lag.specs.Steps.{source_by, waits, held_after};
 
@@ -72,7 +73,7 @@ impl Look {
 
     // What is held after row `next`.
     pub(crate) fn step<K: Kind>(self, held: Held, window: &Window<'_, K>, next: usize) -> Held
-        ensures { result ≡ held_after self.way self.ignore_nulls held (view window.now) next }
+        ensures { result ≡ held_after self.way self.ignore_nulls held (view window.now) next (row_after next) }
     {
         match self.way {
             Way::Back(m) if self.ignore_nulls => count_row(m, held, window, next),

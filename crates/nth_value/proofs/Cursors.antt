@@ -8,7 +8,7 @@ use Rattle.column.specs.Cells.{column_cells, view}
 use Rattle.column.proofs.Cells.{view-all}
 use Rattle.present.specs.declared.held.Held.{Held}
 use Rattle.present.specs.Present.{at, before, ahead}
-use Rattle.present.specs.Counting.{Counting, last_row, counted_row, oldest_source}
+use Rattle.present.specs.Counting.{Counting, counted_row, oldest_source}
 use Rattle.present.proofs.Ahead.{ahead-same}
 use Rattle.present.proofs.Counts.{number_of}
 use Rattle.present.proofs.Parts.{from_on, up_to, cut, behind-before, ahead_part}
@@ -23,10 +23,10 @@ pub shown-ahead : {V : Type 0} (w : Window V) (rows : List (Option V)) → Shows
 shown-ahead w rows h s n = ahead-same (view w) (at rows) s n (λ k l u. h k)
 
 -- one row more is counted
-pub count_on : {V : Type 0} (w : Window V) (rows : List (Option V)) (m row : ℕ) (h h' : Held) → ShowsAll w rows → 0 < m → row < last_row → h' ≡ counted_row m h (view w) row → Counting m h rows row × (h.next ≡ row) → Counting m h' rows (row + 1) × (h'.next ≡ row + 1)
-count_on w rows m row h h' all l b e d =
+pub count_on : {V : Type 0} (w : Window V) (rows : List (Option V)) (m row : ℕ) (h h' : Held) → ShowsAll w rows → 0 < m → h' ≡ counted_row m h (view w) row (row + 1) → Counting m h rows row × (h.next ≡ row) → Counting m h' rows (row + 1) × (h'.next ≡ row + 1)
+count_on w rows m row h h' all l e d =
     subst (λ (x : Held). Counting m x rows (row + 1) × (x.next ≡ row + 1)) (sym e) (
-      counts_next m h rows row (view w) l b d.0 (λ k u v. all k),
+      counts_next m h rows row (view w) l d.0 (λ k u v. all k),
       omega (arith, d.1),
     )
 

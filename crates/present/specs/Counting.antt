@@ -32,32 +32,32 @@ oldest_source m h = oldest_of m h.counted
 abbrev pub held_mark : ℕ → Held → ℕ
 held_mark m h = unwrap_or (oldest_source m h) 0
 
--- the greatest number that a row can have
-abbrev pub last_row : ℕ
-last_row = 18446744073709551615
-
--- the row after row i
-abbrev pub row_after : ℕ → ℕ
-row_after i = min (i + 1) last_row
-
 -- the first present row after row o, before row n; row o if there is none
 abbrev pub next_present : {V : Type 0} → (ℕ → Option V) → ℕ → ℕ → ℕ
 next_present cell o n = unwrap_or (slice_get (ahead cell (o + 1) (n - (o + 1))) 0) o
 
--- row i counted: as one more, or in place of the oldest
-abbrev pub counted : {V : Type 0} → ℕ → Option Counted → (ℕ → Option V) → ℕ → Counted
-counted m None cell i = record { count = 1; oldest = i }
-counted m (Some c) cell i = cond (nat_lt c.count m)
+-- row i counted, before row n: as one more, or in place of the oldest
+abbrev pub counted : {V : Type 0} → ℕ → Option Counted → (ℕ → Option V) → ℕ → ℕ → Counted
+counted m None cell i n = record { count = 1; oldest = i }
+counted m (Some c) cell i n = cond (nat_lt c.count m)
     (record { count = c.count + 1; oldest = c.oldest })
-    (record { count = c.count; oldest = next_present cell c.oldest (row_after i) })
+    (record { count = c.count; oldest = next_present cell c.oldest n })
 
--- row i passed over
+-- the rows before row n passed over
 abbrev pub passed : Held → ℕ → Held
-passed h i = record { next = max h.next (row_after i); counted = h.counted }
+passed h n = record { next = max h.next n; counted = h.counted }
 
--- what is held after row i: a present row is counted
-abbrev pub counted_row : {V : Type 0} → ℕ → Held → (ℕ → Option V) → ℕ → Held
-counted_row m h cell i = record {
-  next = max h.next (row_after i);
-  counted = cond (is_some (cell i)) (Some (counted m h.counted cell i)) h.counted;
+-- what is held at row n, after row i: a present row is counted
+abbrev pub counted_row : {V : Type 0} → ℕ → Held → (ℕ → Option V) → ℕ → ℕ → Held
+counted_row m h cell i n = record {
+  next = max h.next n;
+  counted = cond (is_some (cell i)) (Some (counted m h.counted cell i n)) h.counted;
 }
+
+-- the greatest number that a row can have
+abbrev pub last_row : ℕ
+last_row = 18446744073709551615
+
+-- the row after row i, as far as there is a number for it
+abbrev pub row_after : ℕ → ℕ
+row_after i = min (i + 1) last_row

@@ -2,7 +2,7 @@
 // a count and the row of the oldest stand for the queue of distances between present rows.
 ghost use Rattle.std.specs.Prelude.{◌≡◌};
 ghost use Rattle.column.specs.Cells.{view};
-ghost use Rattle.present.specs.Counting.{counted, passed, counted_row, oldest_source};
+ghost use Rattle.present.specs.Counting.{row_after, counted, passed, counted_row, oldest_source};
 
 use crate::scan::present_after;
 use column::column::Window;
@@ -32,7 +32,7 @@ impl Held {
 
     // Past a row that is not counted.
     pub fn passed(self, next: usize) -> Held
-        ensures { result ≡ passed self next }
+        ensures { result ≡ passed self (row_after next) }
     {
         Held {
             next: self.next.max(next.saturating_add(1)),
@@ -48,7 +48,7 @@ fn count_present<K: Kind>(
     window: &Window<'_, K>,
     next: usize,
 ) -> Counted
-    ensures { result ≡ counted m before (view window.now) next }
+    ensures { result ≡ counted m before (view window.now) next (row_after next) }
 {
     match before {
         None => Counted {
@@ -68,7 +68,7 @@ fn count_present<K: Kind>(
 
 // What is held after row `next`, looking back past `m` present rows; a NULL row counts for nothing.
 pub fn count_row<K: Kind>(m: usize, held: Held, window: &Window<'_, K>, next: usize) -> Held
-    ensures { result ≡ counted_row m held (view window.now) next }
+    ensures { result ≡ counted_row m held (view window.now) next (row_after next) }
 {
     let after = held.passed(next);
     if window.cell(next).is_some() {

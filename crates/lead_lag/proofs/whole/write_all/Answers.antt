@@ -29,4 +29,4 @@ rows-preserved g c =
     let col = c.args.column.now in
     let look = c.args.look in
     let long = length-cells col.values.now col.marks.now c.requires.lengths in
-    (one_more o.slots o.stored o.size o.place o.laws _ _ _ _ _ _ _ c.rows.invariant.0 c.put-in-rows.ensures.slots c.put-in-rows.ensures.place (held_answer col look.way look.ignore_nulls c.args.default c.rows.held _ c.rows.i c.source.result c.take_cell-in-rows.result c.requires.proper long c.rows-test.true c.rows.invariant.1 c.source.ensures c.take_cell-in-rows.ensures), held_on col look.way look.ignore_nulls c.rows.held c.step-held.result c.rows.i c.requires.proper (search rules) c.rows.invariant.1 c.step-held.ensures)
+    (one_more o.slots o.stored o.size o.place o.laws _ _ _ _ _ _ _ c.rows.invariant.0 c.put-in-rows.ensures.slots c.put-in-rows.ensures.place (held_answer col look.way look.ignore_nulls c.args.default c.rows.held _ c.rows.i c.source.result c.take_cell-in-rows.result c.requires.proper long c.rows-test.true c.rows.invariant.1 c.source.ensures c.take_cell-in-rows.ensures), held_on col look.way look.ignore_nulls c.rows.held c.step-held.result c.rows.i c.requires.proper c.rows.invariant.1 (search rules))

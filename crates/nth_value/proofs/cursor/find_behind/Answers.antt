@@ -5,7 +5,7 @@ use Rattle.nth_value.proofs.Cursors.{count_on, behind_found}
 use Rattle.nth_value.proofs.cursor.find_behind.Goals as goal
 
 pub loop-row-preserved : goal.loop-row-preserved
-loop-row-preserved g c rows all l k = count_on c.args.window.now rows c.args.m c.loop-row.row c.loop-row.held c.count_row.result all l (search rules) c.count_row.ensures (c.loop-row.invariant rows all l k)
+loop-row-preserved g c rows all l k = count_on c.args.window.now rows c.args.m c.loop-row.row c.loop-row.held c.count_row.result all l (search rules) (c.loop-row.invariant rows all l k)
 
 pub returns : goal.returns
 returns g c rows all l k =
