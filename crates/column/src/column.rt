@@ -45,13 +45,6 @@ impl<'a, K> Window<'a, K> {
     }
 }
 
-// The mark of a row; past the end false.
-fn is_marked(marks: &[bool], row: usize) -> bool
-    ensures { result ≡ slice_index_or marks.now row false }
-{
-    marks.get(row) == Some(&true)
-}
-
 // The values with a true mark, NULL for the others.
 fn marked_values<K: Kind>(
     heap: Global,
@@ -68,13 +61,20 @@ fn marked_values<K: Kind>(
 }
 
 impl<K: Kind> Column<'_, K> {
+    // The mark of a row; past the end false.
+    pub fn is_marked(&self, row: usize) -> bool
+        ensures { result ≡ slice_index_or self.now.marks.now row false }
+    {
+        self.marks.get(row) == Some(&true)
+    }
+
     // The cell of a row; past the end NULL.
     #[tactic(auto, using(crate::proofs::Cells::cell_within, crate::proofs::Cells::cell_past))]
     pub fn cell(&self, row: usize) -> Option<K>
         ensures { result ≡ slice_index_or (column_cells self.now) row None }
     {
         let value = self.values.get(row)?;
-        is_marked(self.marks, row).then_some(*value)
+        self.is_marked(row).then_some(*value)
     }
 
     // All cells, as many as the shorter list has.
@@ -110,7 +110,7 @@ impl<K: Kind> Window<'_, K> {
     }
 }
 
-// Both NULL, or both present and the same.
+// Both NULL, or both present and the same: `==`, by a contract that speaks of the kind's sameness.
 pub fn same_cell<K: Kind>(a: Option<K>, b: Option<K>) -> bool
     ensures { result ≡ same_cell K.Kind.same a b }
 {

@@ -2,6 +2,7 @@ ghost use Rattle.std.specs.Prelude.{◌≡◌};
 ghost use Rattle.column.specs.Fault.{number, place};
 
 // Why a call was refused: a case for each check, with the place of the fault in it.
+// No struct of a kind and a place: so a case cannot be told without its place, and `match` reads as the table of checks.
 #[derive(Clone, Copy, PartialEq, Eq, Debug)]
 pub enum Fault {
     // the argument is no integer; which argument

@@ -20,7 +20,7 @@ pub(crate) fn write_all<K: Kind, O: Output<Option<K>>>(
     column: &Column<'_, K>,
     out: &mut O,
 )
-    // what the call's check has told of the column and the output; a struct that holds it is longer, and has this one use
+    // the contract speaks of the lent lists and the output themselves; a struct that held what the check told would be unpacked in every clause
     requires lengths { length column.now.values.now ≡ length column.now.marks.now }
     requires room { length column.now.values.now ≤ O.Output.size (O.Output.slots out.old) }
     requires proper { Proper look.way }

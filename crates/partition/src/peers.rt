@@ -12,7 +12,7 @@ use column::fault::Fault;
 use column::kind::Kind;
 
 impl<'a, K: Kind> PeerGroups<'a, K> {
-    // All groups of a column that passed its checks.
+    // All groups of a column that passed its checks; a checked column as a type would be unpacked in every clause.
     pub(crate) fn of(column: &Column<'a, K>) -> PeerGroups<'a, K>
         requires { length column.now.values.now ≡ length column.now.marks.now }
         ensures { groups_left K.Kind.same result ≡ column_groups K.Kind.same column.now }
@@ -61,7 +61,7 @@ pub(crate) fn groups_fault<K: Kind>(
 ) -> Option<usize>
     ensures { result ≡ groups_fault groups.now (groups_left K.Kind.same own.entry) }
 {
-    // no `position`: its test would move the groups on, which a reader expects of no test
+    // `position` and `or_else` would have two closures that both move `own` on; here each `next` is seen
     for (k, group) in groups.iter().enumerate() {
         if Some(*group) != own.next() {
             return Some(k);

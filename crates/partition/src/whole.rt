@@ -84,7 +84,7 @@ fn check_groups<K: Kind>(column: &Column<'_, K>, groups: &[(usize, usize)]) -> R
     )
 }
 
-// The checks in their order; apart, since each of their six ways out would owe the clauses of `check_whole` anew.
+// The checks in their order; apart, since each early return would owe the clauses of `check_whole` anew.
 // The two wants stand side by side, as an evaluator has them: a struct would be made at each call to be taken apart here.
 fn first_fault<K: Kind>(
     partition: &WholePartition<'_, K>,

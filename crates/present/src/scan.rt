@@ -21,6 +21,7 @@ pub fn present_ahead<K: Kind>(
 }
 
 // The m-th present row of those from `from` up to `end`, not included, counted from the last.
+// Apart from `present_ahead`: `rev` makes the range another type, and a function over both would ask for clauses on its items.
 pub fn present_behind<K: Kind>(
     window: &Window<'_, K>,
     from: usize,
@@ -44,7 +45,7 @@ pub(crate) fn present_after<K: Kind>(
     present_ahead(window, row.saturating_add(1), end, 1)
 }
 
-// The present row of a number among those from `row` on becomes the one of that number from the next row on.
+// Given the j-th present row of those from `row` on, the j-th of those from the row after it on.
 #[tactic(auto, using(crate::proofs::Ahead::pass_null, crate::proofs::Ahead::pass_none, crate::proofs::Ahead::pass_found))]
 pub fn pass_ahead<K: Kind>(
     window: &Window<'_, K>,

@@ -34,7 +34,7 @@ fn write_graded<G: Graded, O: Output<G::Grade>>(
     groups: &[(usize, usize)],
     out: &mut O,
 )
-    // what the call's check has told of the groups, the rows and the output; a type that held it would be no equal of what the contract speaks of
+    // the contract speaks of the lent lists and the output themselves; a struct that held what the check told would be unpacked in every clause
     requires covers { Covers 0 groups.now rows }
     requires limited { rows ≤ row_limit }
     requires room { rows ≤ O.Output.size (O.Output.slots out.old) }
@@ -60,12 +60,13 @@ pub(crate) fn evaluate_graded<G: Graded, K: Kind, O: Output<G::Grade>>(
     ensures call { WholeCall O.Output.stored (whole_refusal K.Kind.same false true (input rows.now) (O.Output.size (O.Output.slots out.old))) (graded (G.Graded.graded function.now) K.Kind.same (column_cells rows.now.column)) (row_count (input rows.now)) (O.Output.slots out.old) (O.Output.slots out.new) result }
     ensures place { O.Output.place out.old out.new }
 {
+    // groups are wanted, and frames are not
     check_whole(rows, false, true, out.len())?;
     write_graded(function, rows.column.values.len(), rows.groups, out);
     Ok(())
 }
 
-// One division of two whole numbers.
+// One division of two whole numbers, which have to fit 32 bits.
 pub(crate) fn fraction(part: usize, whole: usize) -> f64
     requires part { part ≤ row_limit }
     requires whole { whole ≤ row_limit }

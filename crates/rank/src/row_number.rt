@@ -32,7 +32,7 @@ impl<K: Kind> RowNumber<K> {
     }
 }
 
-// The number of a row, from 1.
+// The number of a row, from 1; the sum has to fit.
 fn row_number(row: usize) -> u64
     requires { row < row_limit }
     ensures { result ≡ row + 1 }
@@ -42,7 +42,7 @@ fn row_number(row: usize) -> u64
 
 // Writes the number of each row.
 fn write_numbers<O: Output<u64>>(rows: usize, out: &mut O)
-    // what the call's check has told of the rows and the output; a type that held it would be no equal of what the contract speaks of
+    // the contract speaks of the lent lists and the output themselves; a struct that held what the check told would be unpacked in every clause
     requires limited { rows ≤ row_limit }
     requires room { rows ≤ O.Output.size (O.Output.slots out.old) }
     ensures slots { O.Output.slots out.new ≡ written O.Output.stored (λ i. i + 1) (O.Output.slots out.old) rows }

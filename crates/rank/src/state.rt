@@ -32,12 +32,12 @@ impl<K: Kind> RankState<K> {
     }
 
     // Takes row `next` with its cell: it opens a group, or continues the one that is held.
-    // The bound is of a number, asked where one is counted up; a type for such numbers would be opened at each use.
+    // The row after it has to fit.
     pub(crate) fn step(&mut self, next: usize, cell: Option<K>)
         requires { next < row_limit }
         ensures { self.new ≡ state_after K.Kind.same self.old cell next }
     {
-        // by the rule on forms in docs/DECISIONS.md: the state and the cell are matched together, and the state is filled in place
+        // a form that is required here (docs/DECISIONS.md, "Language forms"): state and cell are matched together, and the state is filled in place
         let opens = match (&mut self.last_rank_data, cell) {
             (Some(first), cell) => {
                 let held = *first;

@@ -29,7 +29,7 @@ impl Progress {
             || (self.from_zero && start > 0)
     }
 
-    // The first check of a row request that fails, but for the last check.
+    // The first check of a row request that fails, of all but whether the row is too early.
     pub(crate) fn check<K: Kind>(
         &self,
         wants: bool,
@@ -40,7 +40,8 @@ impl Progress {
     ) -> Result<(), Fault>
         ensures { result ≡ passes (refusal_at wants self.now total mark window.now frame) }
     {
-        if wants && frame.is_none() {
+        let wanted = frame.filter(|_| wants);
+        if wants && wanted.is_none() {
             return Err(Fault::NoFrame(self.next));
         }
         if total == Some(self.next) {
@@ -59,8 +60,7 @@ impl Progress {
         {
             return Err(Fault::PastTotal(t));
         }
-        if let Some(f) = frame
-            && wants
+        if let Some(f) = wanted
             && self.unfit(total, f)
         {
             return Err(Fault::BadFrame(self.next));

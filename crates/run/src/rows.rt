@@ -54,7 +54,7 @@ impl<'a, K: Kind> Turn<'a, K> {
         }
     }
 
-    // The frame of the row, (0, 0) where frames are not wanted.
+    // The frame that came with the request, (0, 0) where none did.
     pub fn frame(&self) -> (usize, usize)
         ensures { result ≡ self.now.frame }
     {
