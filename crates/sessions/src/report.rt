@@ -1,7 +1,7 @@
 // The text of the report: each line with its answer, and a summary.
 ghost use Rattle.std.specs.Prelude.{◌≡◌, ◌<◌, ◌≤◌, map, length, IfOk, string_bytes, MatchResult};
 ghost use Rattle.sessions.specs.Faults.{FullAt, Unreported};
-ghost use Rattle.sessions.specs.Report.{row_text, rows_text, head_text, summary_text, nulls, expiry_of, Reported};
+ghost use Rattle.sessions.specs.Report.{rows_text, head_text, summary_text, nulls, expiry_of, Reported};
 
 use crate::answers::last_renewed;
 use crate::problem::{Problem, Refusal, Unanswered};
@@ -34,15 +34,6 @@ fn header(heap: Global, line: &str) -> Result<String, AllocError>
     format!(in heap; "{line},last_renewed_expiry\n")
 }
 
-fn row(heap: Global, line: &str, answer: Option<Instant>) -> Result<String, AllocError>
-    ensures { IfOk result (λ s. string_bytes s ≡ row_text line.now answer) }
-{
-    match answer {
-        Some(Instant(t)) => format!(in heap; "{line},{t}\n"),
-        None => format!(in heap; "{line},\n"),
-    }
-}
-
 fn summary(
     heap: Global,
     sessions: usize,
@@ -69,8 +60,11 @@ fn rows(
 {
     let mut text = String::new(heap);
     for (record, answer) in records.iter().zip(answers) {
-        let line = row(heap, record.line, *answer)?;
-        text.push_str(line.as_str())?;
+        let line = record.line;
+        match *answer {
+            Some(Instant(t)) => write!(text, "{line},{t}\n")?,
+            None => write!(text, "{line},\n")?,
+        }
     }
     Ok(text)
 }
