@@ -23,7 +23,7 @@ fn find_column<'a>(names: &[&'a str], name: &'static str) -> Result<usize, Probl
     ensures { MatchResult result (Column names.now name.now (length names.now)) (NameFault names.now name.now) }
 {
     let first = first_named(names, name).ok_or(Problem::NoColumn(name))?;
-    if first_named(&names[first + 1..], name).is_some() {
+    if names[first + 1..].contains(&name) {
         return Err(Problem::ColumnTwice(name));
     }
     Ok(first)
