@@ -1,5 +1,5 @@
 -- What is wrong with a text that is refused. Assumes nothing.
-use Rattle.std.specs.Prelude.{◌≡◌, ℕ, ◌+◌, ◌<◌, ◌≤◌, ◌⊎◌, List, [], map, length, take, codes, ◌≢◌, slice_index, slice_index_or}
+use Rattle.std.specs.Prelude.{◌≡◌, ℕ, ◌+◌, ◌<◌, ◌⊎◌, List, [], ◌∷◌, map, length, take, codes, ◌≢◌, slice_index, slice_index_or}
 use Rattle.std.specs.Borrow.{Bor}
 use Rattle.std.specs.List.{join_with_byte}
 use Rattle.column.specs.Refusal.{row_limit}
@@ -99,34 +99,36 @@ LineRefused c whole n (refusals.At m p) = (m ≡ n) × BadFields c whole p
 
 -- a text whose first line is no header
 pub record BadHeader (text : List ℕ) (p : Problem) : Type 0 where
-  pub lines : List (Bor (List ℕ))
-  pub lines_are : Lines text lines
+  pub top : Bor (List ℕ)
+  pub below : List (Bor (List ℕ))
+  pub lines_are : Lines text (top ∷ below)
   pub line : List ℕ
-  pub first : (e : Bor (List ℕ)) → Stripped 13 (slice_index_or lines 0 e).now line
+  pub first : Stripped 13 top.now line
   pub fault : HeaderFault line p
 
--- line n, from 1, is the first behind the header that is no record
-pub record BadRow (c : Columns) (lines : List (Bor (List ℕ))) (n : ℕ) (p : Problem) : Type 0 where
+-- line n of the text is the first of those below the header that is no record
+pub record BadRow (c : Columns) (below : List (Bor (List ℕ))) (n : ℕ) (p : Problem) : Type 0 where
   pub rows : List Record
-  pub rows_read : FromLines c lines rows
+  pub rows_read : FromLines c below rows
   pub place : n ≡ length rows + 2
-  pub within : n ≤ length lines
-  pub fault : (e : Bor (List ℕ)) → BadFields c (slice_index_or lines (length rows + 1) e).now p
+  pub within : length rows < length below
+  pub fault : (e : Bor (List ℕ)) → BadFields c (slice_index_or below (length rows) e).now p
 
--- lines behind a header that are refused, by memory or for the first that is no record
+-- lines below a header that are refused, by memory or for the first that is no record
 abbrev pub LinesRefused : Columns → List (Bor (List ℕ)) → Refusal → Type 0
-LinesRefused c lines refusals.Memory = Unit {0}
-LinesRefused c lines (refusals.At n p) = BadRow c lines n p
+LinesRefused c below refusals.Memory = Unit {0}
+LinesRefused c below (refusals.At n p) = BadRow c below n p
 
 -- a text whose line n is the first that is no record
 pub record BadLine (text : List ℕ) (n : ℕ) (p : Problem) : Type 0 where
-  pub lines : List (Bor (List ℕ))
-  pub lines_are : Lines text lines
+  pub top : Bor (List ℕ)
+  pub below : List (Bor (List ℕ))
+  pub lines_are : Lines text (top ∷ below)
   pub columns : Columns
   pub header : List ℕ
-  pub first : (e : Bor (List ℕ)) → Stripped 13 (slice_index_or lines 0 e).now header
+  pub first : Stripped 13 top.now header
   pub header_read : FromHeader header columns
-  pub row : BadRow columns lines n p
+  pub row : BadRow columns below n p
 
 -- a text that is refused: for want of memory, or at a line for what is wrong with it
 abbrev pub Unread : List ℕ → Refusal → Type 0

@@ -3,12 +3,6 @@ use Rattle.std.specs.Prelude.{◌≡◌, ℕ, ◌<◌, List, length, codes, ◌�
 use Rattle.std.specs.Borrow.{Bor}
 use Rattle.sessions.specs.declared.columns.Columns.{Columns}
 
--- each column stands among those of the header
-pub record Placed (c : Columns) : Type 0 where
-  pub session : c.session < c.count
-  pub instant : c.instant < c.count
-  pub expiry : c.expiry < c.count
-
 -- no other of the first n columns but k may have the name
 abbrev pub Lone : List (Bor (List ℕ)) → List ℕ → ℕ → ℕ → Type 0
 Lone names name n k = (j : ℕ) (d : Bor (List ℕ)) → j < n → (slice_index_or names j d).now ≡ name → j ≡ k

@@ -1,5 +1,5 @@
 -- What a line and its fields say. Assumes nothing.
-use Rattle.std.specs.Prelude.{◌≡◌, ℕ, ◌+◌, ◌<◌, ◌⊎◌, List, [], ◌∷◌, ◌++◌, map, length, get_or, Some, None, FitsSigned, ◌≢◌, slice_index_or}
+use Rattle.std.specs.Prelude.{◌≡◌, ℕ, ◌<◌, ◌⊎◌, List, [], ◌∷◌, ◌++◌, map, length, get_or, Some, None, FitsSigned, ◌≢◌, slice_index_or}
 use Rattle.std.specs.Borrow.{Bor}
 use Rattle.std.specs.Int.{w64}
 use Rattle.std.specs.Str.Iter.{LacksByte}
@@ -61,16 +61,17 @@ pub record FromLine (c : Columns) (whole : List ℕ) (r : Record) : Type 0 where
   pub apart : Apart 44 fields
   pub says : IsRecord c line fields r
 
--- record k is that of line k + 1, where the header is line 0
+-- record k is that of line k of those below the header
 abbrev pub FromLines : Columns → List (Bor (List ℕ)) → List Record → Type 0
-FromLines c ls rows = (k : ℕ) (d : Record) (e : Bor (List ℕ)) → k < length rows → FromLine c (get_or ls (k + 1) e).now (slice_index_or rows k d)
+FromLines c ls rows = (k : ℕ) (d : Record) (e : Bor (List ℕ)) → k < length rows → FromLine c (slice_index_or ls k e).now (slice_index_or rows k d)
 
--- the header and the records of a text: its first line, and one record for each other line, in order
+-- the header and the records of a text: its first line, and one record for each line below it, in order
 pub record IsTable (text header : List ℕ) (rows : List Record) : Type 0 where
-  pub lines : List (Bor (List ℕ))
-  pub lines_are : Lines text lines
+  pub top : Bor (List ℕ)
+  pub below : List (Bor (List ℕ))
+  pub lines_are : Lines text (top ∷ below)
   pub columns : Columns
-  pub first : (e : Bor (List ℕ)) → Stripped 13 (get_or lines 0 e).now header
+  pub first : Stripped 13 top.now header
   pub header_read : FromHeader header columns
-  pub count : length rows + 1 ≡ length lines
-  pub rows_read : FromLines columns lines rows
+  pub count : length rows ≡ length below
+  pub rows_read : FromLines columns below rows

@@ -1,52 +1,11 @@
-ghost use Rattle.std.specs.Prelude.{length, MatchOption, MatchResult};
-ghost use Rattle.sessions.specs.Header.{Placed, Absent, First, Column, Header};
-ghost use Rattle.sessions.specs.Faults.{NameFault, NamesFault};
-
-use crate::problem::Problem;
-
-pub const SESSION: &str = "session";
-
-pub const INSTANT: &str = "instant";
-
-pub const EXPIRY: &str = "renewed_expiry";
+ghost use Rattle.std.specs.Prelude.{◌<◌};
 
 // Where the columns that are read stand, and how many fields a line has.
-#[derive(Clone, Copy)]
+#[derive(Drop)]
 pub struct Columns {
     pub session: usize,
     pub instant: usize,
     pub expiry: usize,
     pub count: usize,
-}
-
-// The first column of a name.
-fn first_named(names: &[&str], name: &str) -> Option<usize>
-    ensures { MatchOption result (Absent names.now name.now (length names.now)) (First names.now name.now) }
-{
-    names.iter().position(|other| *other == name)
-}
-
-// The one column of a name.
-fn find_column<'a>(names: &[&'a str], name: &'static str) -> Result<usize, Problem<'a>>
-    ensures { MatchResult result (Column names.now name.now (length names.now)) (NameFault names.now name.now) }
-{
-    let first = first_named(names, name).ok_or(Problem::NoColumn(name))?;
-    if first_named(&names[first + 1..], name).is_some() {
-        return Err(Problem::ColumnTwice(name));
-    }
-    Ok(first)
-}
-
-pub(crate) fn find_columns<'a>(names: &[&'a str]) -> Result<Columns, Problem<'a>>
-    ensures { MatchResult result (λ c. Placed c × Header names.now c) (NamesFault names.now) }
-{
-    let session = find_column(names, SESSION)?;
-    let instant = find_column(names, INSTANT)?;
-    let expiry = find_column(names, EXPIRY)?;
-    Ok(Columns {
-        session,
-        instant,
-        expiry,
-        count: names.len(),
-    })
+    ghost placed: { (session < count) × (instant < count) × (expiry < count) },
 }

@@ -4,6 +4,7 @@
 pub mod answers;
 mod cells;
 mod columns;
+mod header;
 mod lag;
 mod partitions;
 pub mod problem;

@@ -2,6 +2,7 @@ ghost use Rattle.std.specs.Prelude.{◌≡◌};
 ghost use Rattle.sessions.specs.declared.problem.Refusal.TheVariants.{Memory as NoMemory, At};
 ghost use Rattle.sessions.specs.declared.problem.Unanswered.TheVariants.{Memory};
 
+use column::column::ROW_LIMIT;
 use std::alloc::AllocError;
 use std::fmt;
 
@@ -48,7 +49,7 @@ impl<E: Into<AllocError>> From<E> for Unanswered {
 }
 
 // Why there is no report.
-// One generic error for this and `Unanswered` would save one `From` for two structs, one for what each holds beside `Memory`.
+// Three enums (this, `Unanswered`, `Stop` of `lines`): one generic error would save two `From`s for a struct apiece of what each holds beside `Memory`.
 #[derive(Clone, Copy)]
 pub enum Refusal<'a> {
     Memory,
@@ -79,7 +80,7 @@ impl<'a> fmt::Display for Problem<'a> {
                 write!(f, "{column} is no whole number of 64 bits: \"{text}\"")
             }
             Problem::TooManyRecords { session } => {
-                write!(f, "session \"{session}\" has more than 16777216 records")
+                write!(f, "session \"{session}\" has more than {ROW_LIMIT} records")
             }
         }
     }

@@ -3,10 +3,10 @@ ghost use Rattle.std.specs.Prelude.{◌≡◌, ◌<◌, ◌+◌, IfErr, true, fa
 ghost use Rattle.std.specs.List.{join_with_byte};
 ghost use Rattle.std.specs.Str.Iter.{LacksByte};
 ghost use Rattle.sessions.specs.Reading.{Reads, Apart, IsRecord, FromHeader, FromLine, FromLines, Stripped, Lines, IsTable};
-ghost use Rattle.sessions.specs.Header.{Placed};
 ghost use Rattle.sessions.specs.Faults.{Holds, IsNoNumber, LineFault, LineRefused, LinesRefused, HeaderRefused, Unread};
 
-use crate::columns::{Columns, EXPIRY, INSTANT, find_columns};
+use crate::columns::Columns;
+use crate::header::{EXPIRY, INSTANT, find_columns};
 use crate::problem::{Problem, Refusal};
 use crate::record::Record;
 use column::kind::Instant;
@@ -76,7 +76,6 @@ fn read_record<'a>(
     line: &'a str,
     fields: &[&'a str],
 ) -> Result<Record<'a>, Problem<'a>>
-    requires { Placed columns.now }
     ensures { MatchResult result (IsRecord columns.now line.now fields.now) (LineFault columns.now line.now fields.now) }
 {
     if is_quoted(line) {
@@ -102,7 +101,7 @@ fn read_record<'a>(
 }
 
 fn read_header<'a>(heap: Global, line: &'a str) -> Result<Columns, Refusal<'a>>
-    ensures { MatchResult result (λ c. Placed c × FromHeader line.now c) (HeaderRefused line.now) }
+    ensures { MatchResult result (FromHeader line.now) (HeaderRefused line.now) }
 {
     if is_quoted(line) {
         return Err(Problem::Quote.at(1));
@@ -118,7 +117,6 @@ fn read_line<'a>(
     line: &'a str,
     n: usize,
 ) -> Result<Record<'a>, Refusal<'a>>
-    requires { Placed columns.now }
     ensures { MatchResult result (FromLine columns.now line.now) (LineRefused columns.now line.now n) }
 {
     let line = without_end(line, '\r');
@@ -132,17 +130,14 @@ fn read_lines<'a>(
     columns: &Columns,
     lines: &[&'a str],
 ) -> Result<Vec<Record<'a>>, Refusal<'a>>
-    requires placed { Placed columns.now }
-    requires some { 0 < length lines.now }
-    ensures count { IfOk result (λ v. length v.items + 1 ≡ length lines.now) }
+    ensures count { IfOk result (λ v. length v.items ≡ length lines.now) }
     ensures records { IfOk result (λ v. FromLines columns.now lines.now v.items) }
     ensures refused { IfErr result (LinesRefused columns.now lines.now) }
 {
     lines
         .iter()
         .enumerate()
-        .skip(1)
-        .map(|(i, line)| read_line(heap, columns, line, i + 1))
+        .map(|(i, line)| read_line(heap, columns, line, i + 2))
         .try_collect(heap)
 }
 
@@ -150,12 +145,13 @@ fn read_lines<'a>(
 pub(crate) fn read<'a>(heap: Global, text: &'a str) -> Result<Table<'a>, Refusal<'a>>
     ensures { MatchResult result (λ t. IsTable text.now t.header.now t.records.items) (Unread text.now) }
 {
-    let lines = lines(heap, text)?;
     if text.is_empty() {
         return Err(Problem::Empty.at(1));
     }
-    let header = without_end(lines[0], '\r');
+    let lines = lines(heap, text)?;
+    let (first, rest) = lines.as_slice().split_first().unwrap();
+    let header = without_end(first, '\r');
     let columns = read_header(heap, header)?;
-    let records = read_lines(heap, &columns, lines.as_slice())?;
+    let records = read_lines(heap, &columns, rest)?;
     Ok(Table { header, records })
 }

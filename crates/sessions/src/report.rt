@@ -1,7 +1,7 @@
 // The text of the report: each line with its answer, and a summary.
-ghost use Rattle.std.specs.Prelude.{◌≡◌, ◌<◌, ◌≤◌, map, length, IfOk, string_bytes, MatchResult};
+ghost use Rattle.std.specs.Prelude.{◌≡◌, ◌<◌, ◌≤◌, ◌++◌, map, length, IfOk, OnOk, string_bytes, MatchResult};
 ghost use Rattle.sessions.specs.Faults.{FullAt, Unreported};
-ghost use Rattle.sessions.specs.Report.{row_text, rows_text, head_text, summary_text, nulls, expiry_of, Reported};
+ghost use Rattle.sessions.specs.Report.{rows_text, head_text, summary_text, nulls, expiry_of, Reported};
 
 use crate::answers::last_renewed;
 use crate::problem::{Problem, Refusal, Unanswered};
@@ -18,7 +18,7 @@ fn count_nulls(cells: &[Option<Instant>]) -> usize
 }
 
 // How many records have no expiry.
-// One function with `count_nulls`, given a closure for the cell, needs a clause on what that gives; what it counts stays open.
+// One function with `count_nulls`, given a closure for the cell or an iterator of cells, was tried: it asks clauses on either, and what it counts stays open.
 fn count_empty(records: &[Record<'_>]) -> usize
     ensures { result ≡ nulls (map expiry_of records.now) }
 {
@@ -34,45 +34,40 @@ fn header(heap: Global, line: &str) -> Result<String, AllocError>
     format!(in heap; "{line},last_renewed_expiry\n")
 }
 
-fn row(heap: Global, line: &str, answer: Option<Instant>) -> Result<String, AllocError>
-    ensures { IfOk result (λ s. string_bytes s ≡ row_text line.now answer) }
-{
-    match answer {
-        Some(Instant(t)) => format!(in heap; "{line},{t}\n"),
-        None => format!(in heap; "{line},\n"),
-    }
-}
-
-fn summary(
-    heap: Global,
+fn write_summary(
+    text: &mut String,
     sessions: usize,
     records: usize,
     empty: usize,
     defaults: usize,
-) -> Result<String, AllocError>
+) -> Result<(), AllocError>
     requires { defaults ≤ records }
-    ensures { IfOk result (λ s. string_bytes s ≡ summary_text sessions records empty defaults) }
+    ensures { OnOk result (string_bytes text.new ≡ string_bytes text.old ++ summary_text sessions records empty defaults) }
 {
     let found = records - defaults;
-    format!(in heap;
+    write!(
+        text,
         "# sessions: {sessions}\n# records: {records}\n# empty expiries: {empty}\n# answers found: {found}\n# defaults: {defaults}\n"
-    )
+    )?;
+    Ok(())
 }
 
-fn rows(
-    heap: Global,
+fn write_rows(
+    text: &mut String,
     records: &[Record<'_>],
     answers: &[Option<Instant>],
-) -> Result<String, AllocError>
+) -> Result<(), AllocError>
     requires { length answers.now ≡ length records.now }
-    ensures { IfOk result (λ s. string_bytes s ≡ rows_text records.now answers.now) }
+    ensures { OnOk result (string_bytes text.new ≡ string_bytes text.old ++ rows_text records.now answers.now) }
 {
-    let mut text = String::new(heap);
     for (record, answer) in records.iter().zip(answers) {
-        let line = row(heap, record.line, *answer)?;
-        text.push_str(line.as_str())?;
+        let line = record.line;
+        match *answer {
+            Some(Instant(t)) => write!(text, "{line},{t}\n")?,
+            None => write!(text, "{line},\n")?,
+        }
     }
-    Ok(text)
+    Ok(())
 }
 
 // The refusal for a record; the header is line 1.
@@ -98,15 +93,13 @@ pub fn report<'a>(heap: Global, text: &'a str) -> Result<String, Refusal<'a>>
     };
     let cells = answers.cells.as_slice();
     let mut out = header(heap, table.header)?;
-    let body = rows(heap, records, cells)?;
-    out.push_str(body.as_str())?;
-    let end = summary(
-        heap,
+    write_rows(&mut out, records, cells)?;
+    write_summary(
+        &mut out,
         answers.sessions,
         records.len(),
         count_empty(records),
         count_nulls(cells),
     )?;
-    out.push_str(end.as_str())?;
     Ok(out)
 }
