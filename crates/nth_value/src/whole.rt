@@ -19,7 +19,7 @@ pub(crate) fn write_all<K: Kind, O: Output<Option<K>>>(
     frames: &[(usize, usize)],
     out: &mut O,
 )
-    // what the call's check has told of the column, the frames and the output; a struct that holds it is longer, and has this one use
+    // the contract speaks of the lent column and output themselves; a struct that held what the check told would be unpacked in every clause
     requires lengths { length column.now.values.now ≡ length column.now.marks.now }
     requires framed { length frames.now ≡ length column.now.values.now }
     requires fit { (i : ℕ) → i < length frames.now → ((slice_index_or frames.now i (0, 0)).0 ≤ (slice_index_or frames.now i (0, 0)).1) × ((slice_index_or frames.now i (0, 0)).1 ≤ length column.now.values.now) }
