@@ -9,6 +9,7 @@ use Rattle.present.specs.Counting.{Counting}
 use Rattle.nth_value.specs.declared.kind.Pick.{Pick}
 use Rattle.nth_value.specs.declared.kind.Pick.TheVariants.{Nothing, FromStart, FromEnd}
 use Rattle.nth_value.specs.declared.cursor.Reached.{Reached}
+use Rattle.nth_value.specs.declared.cursor.Passed.{Passed}
 use Rattle.nth_value.specs.declared.cursor.Cursor.{Cursor}
 use Rattle.nth_value.specs.declared.cursor.Cursor.TheVariants.{Ends, Ahead, Behind}
 use Rattle.nth_value.specs.Frames.{picked, frame_rows}
@@ -27,14 +28,18 @@ ShowsAll w rows = (k : ℕ) → view w k ≡ at rows k
 abbrev pub Reaches : {V : Type 0} → (ℕ → Option V) → ℕ → Reached → Type 0
 Reaches cell n a = a.found ≡ slice_get (ahead cell a.start (n - a.start)) (a.m - 1)
 
+-- the present rows below `held.next` are counted
+abbrev pub Passes : {V : Type 0} → List (Option V) → Passed → Type 0
+Passes rows b = (0 < b.m) × Counting b.m b.held rows b.held.next
+
 -- what a cursor knows of the rows
 abbrev pub Knows : {V : Type 0} → List (Option V) → Cursor → Type 0
 Knows rows (Ends pick) = Unit {0}
 Knows rows (Ahead a) = Reaches (at rows) (length rows) a
-Knows rows (Behind m h) = (0 < m) × Counting m h rows h.next
+Knows rows (Behind b) = Passes rows b
 
 -- the row that a cursor finds for a frame
 abbrev pub finds : {V : Type 0} → Cursor → List (Option V) → Frame → Option ℕ
 finds (Ends pick) rows f = picked pick (frame_rows false (at rows) f)
 finds (Ahead a) rows f = picked (FromStart a.m) (frame_rows true (at rows) f)
-finds (Behind m h) rows f = picked (FromEnd m) (frame_rows true (at rows) f)
+finds (Behind b) rows f = picked (FromEnd b.m) (frame_rows true (at rows) f)
