@@ -6,7 +6,7 @@ ghost use Rattle.std.specs.List.{slice_get};
 ghost use Rattle.column.specs.Cells.{view};
 ghost use Rattle.present.specs.Present.{at, ahead};
 ghost use Rattle.nth_value.specs.Frames.{picked, frame_rows};
-ghost use Rattle.nth_value.specs.Cursors.{ShowsAll, Reaches, Passes, Knows, finds, Proper};
+ghost use Rattle.nth_value.specs.Cursors.{window_end, ShowsAll, Reaches, Passes, Knows, finds, Proper};
 
 use crate::frames::Seek;
 use crate::kind::Pick;
@@ -23,7 +23,7 @@ pub(crate) struct Reached {
     found: Option<usize>,
 }
 
-// The m-th present row back from those passed.
+// The m-th present row back, of those below `held.next`.
 #[derive(Clone, Copy)]
 pub(crate) struct Passed {
     m: usize,
@@ -43,16 +43,11 @@ pub(crate) enum Cursor {
 
 impl Reached {
     // The row that a frame gives, once the start has moved on to the frame's.
-    fn find<K: Kind>(
-        &mut self,
-        window: &Window<'_, K>,
-        n: usize,
-        frame: (usize, usize),
-    ) -> Option<usize>
+    fn find<K: Kind>(&mut self, window: &Window<'_, K>, frame: (usize, usize)) -> Option<usize>
         requires proper { frame.0 ≤ frame.1 }
-        requires within { frame.1 ≤ n }
+        requires within { frame.1 ≤ window_end window.now }
         ensures same { self.new.m ≡ self.old.m }
-        ensures found { Reaches (view window.now) n self.old → Reaches (view window.now) n self.new × (result ≡ slice_get (ahead (view window.now) frame.0 (frame.1 - frame.0)) (self.old.m - 1)) }
+        ensures found { Reaches (view window.now) (window_end window.now) self.old → Reaches (view window.now) (window_end window.now) self.new × (result ≡ slice_get (ahead (view window.now) frame.0 (frame.1 - frame.0)) (self.old.m - 1)) }
     {
         let (start, end) = frame;
         if start < self.start {
@@ -60,7 +55,7 @@ impl Reached {
         }
         // by row number: a window is read by row
         for row in self.start..start {
-            self.found = pass_ahead(window, self.found, row, n);
+            self.found = pass_ahead(window, self.found, row, window.end());
         }
         self.start = start;
         self.found.filter(|row| *row < end)
@@ -86,16 +81,16 @@ impl Passed {
 }
 
 impl Cursor {
-    // Before the first frame of `n` rows.
-    pub(crate) fn new<K: Kind>(seek: Seek, window: &Window<'_, K>, n: usize) -> Cursor
+    // Before the first frame of a window's rows.
+    pub(crate) fn new<K: Kind>(seek: Seek, window: &Window<'_, K>) -> Cursor
         requires { Proper seek.pick }
-        ensures { (rows : List (Cell K)) → ShowsAll window.now rows → n ≡ length rows → Knows rows result × ((f : ℕ × ℕ) → finds result rows f ≡ picked seek.pick (frame_rows seek.ignore_nulls (at rows) f)) }
+        ensures { (rows : List (Cell K)) → ShowsAll window.now rows → Knows (window_end window.now) rows result × ((f : ℕ × ℕ) → finds result rows f ≡ picked seek.pick (frame_rows seek.ignore_nulls (at rows) f)) }
     {
         match seek.pick {
             Pick::FromStart(m) if seek.ignore_nulls => Cursor::Ahead(Reached {
                 m,
                 start: 0,
-                found: present_ahead(window, 0, n, m),
+                found: present_ahead(window, 0, window.end(), m),
             }),
             Pick::FromEnd(m) if seek.ignore_nulls => Cursor::Behind(Passed {
                 m,
@@ -109,16 +104,15 @@ impl Cursor {
     pub(crate) fn find<K: Kind>(
         &mut self,
         window: &Window<'_, K>,
-        n: usize,
         frame: (usize, usize),
     ) -> Option<usize>
         requires proper { frame.0 ≤ frame.1 }
-        requires within { frame.1 ≤ n }
-        ensures { (rows : List (Cell K)) → ShowsAll window.now rows → n ≡ length rows → Knows rows self.old → Knows rows self.new × (result ≡ finds self.old rows frame) × ((f : ℕ × ℕ) → finds self.new rows f ≡ finds self.old rows f) }
+        requires within { frame.1 ≤ window_end window.now }
+        ensures { (rows : List (Cell K)) → ShowsAll window.now rows → Knows (window_end window.now) rows self.old → Knows (window_end window.now) rows self.new × (result ≡ finds self.old rows frame) × ((f : ℕ × ℕ) → finds self.new rows f ≡ finds self.old rows f) }
     {
         match self {
             Cursor::Ends(pick) => pick.row_in(frame),
-            Cursor::Ahead(known) => known.find(window, n, frame),
+            Cursor::Ahead(known) => known.find(window, frame),
             Cursor::Behind(known) => known.find(window, frame),
         }
     }
