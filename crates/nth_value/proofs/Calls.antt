@@ -1,5 +1,5 @@
 -- What making fresh, a row call and settling give.
-use Rattle.std.proofs.Common.{◌≡◌, ℕ, ◌+◌, ◌<◌, ◌≤◌, Bool, true, false, ◌&&◌, ◌||◌, T, ltb, leb, length, get_or, take, Ok, Option, Result, sym, refl, ap, ◌∙◌, subst, inl, inr, ⊎_elim, arith}
+use Rattle.std.proofs.Common.{◌≡◌, ℕ, ◌+◌, ◌<◌, ◌≤◌, Bool, true, false, T, length, get_or, take, Ok, Option, Result, sym, refl, ap, ◌∙◌, subst, inl, inr, ⊎_elim, arith}
 use Rattle.std.proofs.lemmas.Bool.{cases_lt, cases_Bool}
 use Rattle.std.proofs.lemmas.Bool.Decides.{nat_tests}
 use Rattle.column.specs.declared.fault.Fault.{Fault}
@@ -34,60 +34,50 @@ settle-call e i last h q = record {
   stands = λ p d framed z ordered is. subst (λ (x : NthValueState _). Holding (pick_of e.kind) e.ignore_nulls x p i) (sym q) (settles_holds e.kind e.ignore_nulls e.state p i last z is d);
 }
 
--- a row call of row i with this window and frame
-module _ {V : Type 0} (e : NthValue V) (i : ℕ) (w : Window V) (frame : Frame) (known : Bool) (h : Handed true e.state.mark w frame known) (s : Bool) (is : s ≡ ltb i (end_of w) && (known || leb frame.1 (end_of w))) where
+-- a row call of row i with this window and frame, which the window shows to its end unless the rows are known to be all
+module _ {V : Type 0} (e : NthValue V) (i : ℕ) (w : Window V) (frame : Frame) (known : Bool) (h : Handed true e.state.mark w frame known) (below : i < end_of w) (reaches : known ≡ false → frame.1 ≤ end_of w) where
   abbrev pick : Pick
   pick = pick_of e.kind
 
-  -- whether the window settles the row is what the partition says
-  settled_seen : (p : Partition V) → Asks (nth_meaning e) true p i w frame known → settles (nth_meaning e) p (end_of w) known i ≡ s
-  settled_seen p q =
-      let rows : length (take (end_of w) p.rows) ≡ end_of w = seen_rows (nth_meaning e) true e.state.mark i w frame known h p q in
-      ap (λ (n : ℕ). ltb i n && (known || leb (get_or (take (i + 1) p.frames) i (0, 0)).1 n)) rows ∙ ⊎_elim
-      (λ lt. ap (λ (f : Frame). ltb i (end_of w) && (known || leb f.1 (end_of w))) (seen_frame (nth_meaning e) true e.state.mark i w frame known h p q tt lt) ∙ sym is)
-      (λ ge. sym (is ∙ grind (arith, nat_tests)))
-      (cases_lt i (end_of w))
+  ends : frame.1 ≤ end_of w
+  ends = ⊎_elim (λ k. h.inside tt (subst T (sym k) tt)) (λ k. reaches k) (cases_Bool known)
 
-  module _ (y : s ≡ true) where
-    below : i < end_of w
-    below = let t = is in grind (arith, nat_tests)
+  module _ (p : Partition V) (q : Asks (nth_meaning e) true p i w frame known) where
+    row_there : i < length p.rows
+    row_there = omega (arith, below, seen_within (nth_meaning e) true e.state.mark i w frame known h p q)
 
-    reaches : known ≡ false → frame.1 ≤ end_of w
-    reaches k = let t = is in grind (arith, nat_tests)
+    frame_there : i < length p.frames
+    frame_there = omega (arith, row_there, q.framed)
 
-    ends : frame.1 ≤ end_of w
-    ends = ⊎_elim (λ k. h.inside tt (subst T (sym k) tt)) (λ k. reaches k) (cases_Bool known)
+    frame_is : frame ≡ frame_at p i
+    frame_is = q.at_row tt row_there
 
-    module _ (p : Partition V) (q : Asks (nth_meaning e) true p i w frame known) where
-      row_there : i < length p.rows
-      row_there = omega (arith, below, seen_within (nth_meaning e) true e.state.mark i w frame known h p q)
+    settled_seen : settles (nth_meaning e) p (end_of w) known i ≡ true
+    settled_seen =
+        let rows : length (take (end_of w) p.rows) ≡ end_of w = seen_rows (nth_meaning e) true e.state.mark i w frame known h p q in
+        let last : (get_or (take (i + 1) p.frames) i (0, 0)).1 ≡ frame.1 = ap (λ (f : Frame). f.1) (seen_frame (nth_meaning e) true e.state.mark i w frame known h p q tt below) in
+        grind (arith, nat_tests)
 
-      frame_there : i < length p.frames
-      frame_there = omega (arith, row_there, q.framed)
+    -- the window hides no row of the frame from the mark on
+    hides : Hides e.state.mark p.rows (frame_at p i).1 (view w)
+    hides k u = ⊎_elim
+        (λ lt. inr (omega (arith, lt, h.kept), hidden_view w k lt))
+        (λ ge. inl (seen_view (nth_meaning e) true e.state.mark i w frame known h p q k ge (omega (arith, u, ends, ap (λ (f : Frame). f.1) frame_is))))
+        (cases_lt k w.begin)
 
-      frame_is : frame ≡ frame_at p i
-      frame_is = q.at_row tt row_there
+    answer_seen : answer_by pick e.ignore_nulls e.state (view w) frame ≡ nth_answer pick e.ignore_nulls p i
+    answer_seen = ap (λ (f : Frame). answer_by pick e.ignore_nulls e.state (view w) f) frame_is ∙ answer_is pick e.ignore_nulls e.state p i q.stands frame_there q.ordered (view w) hides _ refl
 
-      -- the window hides no row of the frame from the mark on
-      hides : Hides e.state.mark p.rows (frame_at p i).1 (view w)
-      hides k u = ⊎_elim
-          (λ lt. inr (omega (arith, lt, h.kept), hidden_view w k lt))
-          (λ ge. inl (seen_view (nth_meaning e) true e.state.mark i w frame known h p q k ge (omega (arith, u, ends, ap (λ (f : Frame). f.1) frame_is))))
-          (cases_lt k w.begin)
+    stands_on : (x : Option V) → x ≡ answer_by pick e.ignore_nulls e.state (view w) frame → Holding pick e.ignore_nulls (answered e.state x frame) p (i + 1)
+    stands_on x ex = subst (λ (f : Frame). Holding pick e.ignore_nulls (answered e.state x f) p (i + 1)) (sym frame_is) (holds_on pick e.ignore_nulls e.state p i q.stands frame_there q.ordered x (ex ∙ answer_seen))
 
-      answer_seen : answer_by pick e.ignore_nulls e.state (view w) frame ≡ nth_answer pick e.ignore_nulls p i
-      answer_seen = ap (λ (f : Frame). answer_by pick e.ignore_nulls e.state (view w) f) frame_is ∙ answer_is pick e.ignore_nulls e.state p i q.stands frame_there q.ordered (view w) hides _ refl
-
-      stands_on : (x : Option V) → x ≡ answer_by pick e.ignore_nulls e.state (view w) frame → Holding pick e.ignore_nulls (answered e.state x frame) p (i + 1)
-      stands_on x ex = subst (λ (f : Frame). Holding pick e.ignore_nulls (answered e.state x f) p (i + 1)) (sym frame_is) (holds_on pick e.ignore_nulls e.state p i q.stands frame_there q.ordered x (ex ∙ answer_seen))
-
-    pub answers : (x : Option V) → x ≡ answer_by pick e.ignore_nulls e.state (view w) frame → (h' : NthValueState V) → h' ≡ answered e.state x frame → RowCall nth_meaning true i w frame known e (holding e h') (Ok x)
-    answers x ex h' eh = record {
-      alike = alike e h';
-      mark = omega (arith, ap (λ (g : NthValueState V). g.mark) eh);
-      outcome = below;
-      given = λ p q. given_ok (nth_meaning e) (nth_meaning (holding e h')) p i _ x (settled_seen p q ∙ y) (ex ∙ answer_seen p q) (subst (λ (g : NthValueState V). Holding pick e.ignore_nulls g p (i + 1)) (sym eh) (stands_on p q x ex));
-    }
+  pub answers : (x : Option V) → x ≡ answer_by pick e.ignore_nulls e.state (view w) frame → (h' : NthValueState V) → h' ≡ answered e.state x frame → RowCall nth_meaning true i w frame known e (holding e h') (Ok x)
+  answers x ex h' eh = record {
+    alike = alike e h';
+    mark = omega (arith, ap (λ (g : NthValueState V). g.mark) eh);
+    outcome = below;
+    given = λ p q. given_ok (nth_meaning e) (nth_meaning (holding e h')) p i _ x (settled_seen p q) (ex ∙ answer_seen p q) (subst (λ (g : NthValueState V). Holding pick e.ignore_nulls g p (i + 1)) (sym eh) (stands_on p q x ex));
+  }
 
 -- by what the calls on a turn returned
 pub handed_as : {V : Type 0} (mark : ℕ) (w v : Window V) (f g : Frame) (k l : Bool) → v ≡ w → g ≡ f → l ≡ k → Handed true mark w f k → Handed true mark v g l

@@ -1,5 +1,5 @@
 -- What a cursor knows, one row on.
-use Rattle.std.proofs.Common.{◌≡◌, ℕ, ◌+◌, ◌-◌, ◌<◌, ◌≤◌, List, reverse, length, Option, sym, ap, ◌∙◌, subst, ⊎_elim, arith}
+use Rattle.std.proofs.Common.{◌≡◌, ℕ, ◌+◌, ◌-◌, ◌<◌, ◌≤◌, List, reverse, Option, sym, ap, ◌∙◌, subst, ⊎_elim, arith}
 use Rattle.std.proofs.lemmas.Bool.{cases_lt}
 use Rattle.std.specs.List.{slice_get}
 use Rattle.column.specs.declared.column.Window.{Window}
@@ -45,11 +45,11 @@ pub ahead_found : {V : Type 0} (f : ℕ → Option V) (n m s e : ℕ) (o r : Opt
 ahead_found f n m s e o r le l eo er = er ∙ (ap (up_to e) eo ∙ sym (ahead_part f s e n (m - 1) le l))
 
 -- the row reached, as the window shows it and of the rows
-pub known-ahead : {V : Type 0} (w : Window V) (rows : List (Option V)) → ShowsAll w rows → (n : ℕ) → n ≡ length rows → (a : Reached) → Reaches (at rows) (length rows) a → Reaches (view w) n a
-known-ahead w rows all n e a k = k ∙ sym (ap (λ (xs : List ℕ). slice_get xs (a.m - 1)) (shown-ahead w rows all a.start (n - a.start) ∙ ap (λ (x : ℕ). ahead (at rows) a.start (x - a.start)) e))
+pub known-ahead : {V : Type 0} (w : Window V) (rows : List (Option V)) → ShowsAll w rows → (n : ℕ) (a : Reached) → Reaches (at rows) n a → Reaches (view w) n a
+known-ahead w rows all n a k = k ∙ sym (ap (λ (xs : List ℕ). slice_get xs (a.m - 1)) (shown-ahead w rows all a.start (n - a.start)))
 
-pub told_ahead : {V : Type 0} (w : Window V) (rows : List (Option V)) → ShowsAll w rows → (n : ℕ) → n ≡ length rows → (a : Reached) → Reaches (view w) n a → Reaches (at rows) (length rows) a
-told_ahead w rows all n e a k = k ∙ ap (λ (xs : List ℕ). slice_get xs (a.m - 1)) (shown-ahead w rows all a.start (n - a.start) ∙ ap (λ (x : ℕ). ahead (at rows) a.start (x - a.start)) e)
+pub told_ahead : {V : Type 0} (w : Window V) (rows : List (Option V)) → ShowsAll w rows → (n : ℕ) (a : Reached) → Reaches (view w) n a → Reaches (at rows) n a
+told_ahead w rows all n a k = k ∙ ap (λ (xs : List ℕ). slice_get xs (a.m - 1)) (shown-ahead w rows all a.start (n - a.start))
 
 -- the cell of the row found, as the window that shows a whole column gives it
 pub found_cell : {V : Type 0} (c : Column V) (row found : Option ℕ) (x : Option V) → row ≡ found → x ≡ cell_of (view (record { begin = 0; rows = c })) row → x ≡ cell_of (at (column_cells c)) found

@@ -1,5 +1,5 @@
 -- What is known between one frame of a partition and the next.
-use Rattle.std.specs.Prelude.{◌≡◌, ℕ, ◌-◌, ◌<◌, true, false, List, length, Option}
+use Rattle.std.specs.Prelude.{◌≡◌, ℕ, ◌+◌, ◌-◌, ◌^◌, ◌<◌, min, true, false, List, length, Option}
 use Rattle.std.specs.List.{slice_get}
 use Rattle.column.specs.declared.column.Window.{Window}
 use Rattle.column.specs.Cells.{view}
@@ -9,6 +9,7 @@ use Rattle.present.specs.Counting.{Counting}
 use Rattle.nth_value.specs.declared.kind.Pick.{Pick}
 use Rattle.nth_value.specs.declared.kind.Pick.TheVariants.{Nothing, FromStart, FromEnd}
 use Rattle.nth_value.specs.declared.cursor.Reached.{Reached}
+use Rattle.nth_value.specs.declared.cursor.Passed.{Passed}
 use Rattle.nth_value.specs.declared.cursor.Cursor.{Cursor}
 use Rattle.nth_value.specs.declared.cursor.Cursor.TheVariants.{Ends, Ahead, Behind}
 use Rattle.nth_value.specs.Frames.{picked, frame_rows}
@@ -19,6 +20,10 @@ Proper Nothing = Unit {0}
 Proper (FromStart m) = 0 < m
 Proper (FromEnd m) = 0 < m
 
+-- the row after the window's last, or the largest number where it lies above that
+abbrev pub window_end : {V : Type 0} → Window V → ℕ
+window_end w = min (w.begin + length w.rows.values.now) (2 ^ 64 - 1)
+
 -- the window shows all rows
 abbrev pub ShowsAll : {V : Type 0} → Window V → List (Option V) → Type 0
 ShowsAll w rows = (k : ℕ) → view w k ≡ at rows k
@@ -27,14 +32,18 @@ ShowsAll w rows = (k : ℕ) → view w k ≡ at rows k
 abbrev pub Reaches : {V : Type 0} → (ℕ → Option V) → ℕ → Reached → Type 0
 Reaches cell n a = a.found ≡ slice_get (ahead cell a.start (n - a.start)) (a.m - 1)
 
--- what a cursor knows of the rows
-abbrev pub Knows : {V : Type 0} → List (Option V) → Cursor → Type 0
-Knows rows (Ends pick) = Unit {0}
-Knows rows (Ahead a) = Reaches (at rows) (length rows) a
-Knows rows (Behind m h) = (0 < m) × Counting m h rows h.next
+-- the present rows below `held.next` are counted
+abbrev pub Passes : {V : Type 0} → List (Option V) → Passed → Type 0
+Passes rows b = (0 < b.m) × Counting b.m b.held rows b.held.next
+
+-- what a cursor knows of the rows, looking at n of them
+abbrev pub Knows : {V : Type 0} → ℕ → List (Option V) → Cursor → Type 0
+Knows n rows (Ends pick) = Unit {0}
+Knows n rows (Ahead a) = Reaches (at rows) n a
+Knows n rows (Behind b) = Passes rows b
 
 -- the row that a cursor finds for a frame
 abbrev pub finds : {V : Type 0} → Cursor → List (Option V) → Frame → Option ℕ
 finds (Ends pick) rows f = picked pick (frame_rows false (at rows) f)
 finds (Ahead a) rows f = picked (FromStart a.m) (frame_rows true (at rows) f)
-finds (Behind m h) rows f = picked (FromEnd m) (frame_rows true (at rows) f)
+finds (Behind b) rows f = picked (FromEnd b.m) (frame_rows true (at rows) f)

@@ -58,5 +58,6 @@ impl Seek {
 pub(crate) fn cell_of<K: Kind>(window: &Window<'_, K>, row: Option<usize>) -> Option<K>
     ensures { result ≡ cell_of (view window.now) row }
 {
+    // a `?` says it shorter than `take_cell` of `lead_lag` with no default
     window.cell(row?)
 }

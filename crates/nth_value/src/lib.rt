@@ -3,7 +3,7 @@
 // and a row call is told its window and refuses a row that is too early.
 #![tactic(auto)]
 
-ghost use Rattle.std.specs.Prelude.{◌≡◌, true, false, ◌&&◌, ◌||◌, nat_le, nat_lt};
+ghost use Rattle.std.specs.Prelude.{◌≡◌, true, false};
 ghost use Rattle.column.specs.Cells.{view};
 ghost use Rattle.nth_value.specs.declared.kind.NthValueKind.TheVariants.{First, Last};
 ghost use Rattle.nth_value.specs.Cases.{Cases};
@@ -105,13 +105,6 @@ impl<K: Kind> NthValue<K> {
     }
 }
 
-// Whether rows up to `end`, known to be all or not, settle a row with a frame that ends there.
-fn is_settled(next: usize, frame_end: usize, end: usize, known: bool) -> bool
-    ensures { result ≡ nat_lt next end && (known || nat_le frame_end end) }
-{
-    next < end && (known || frame_end <= end)
-}
-
 impl<K: Kind> Evaluator for NthValue<K> {
     type Value = K;
 
@@ -153,10 +146,11 @@ impl<K: Kind> RowEvaluator for NthValue<K> {
     ghost settling = { nth_settling };
 
     fn row(&mut self, turn: &Turn<'_, K>) -> Result<Option<K>, Fault> {
-        let next = turn.next();
+        let next = turn.shown()?;
         let window = turn.window();
         let frame = turn.frame();
-        if !is_settled(next, frame.1, turn.end(), turn.known()) {
+        // rows that are known to be all settle every frame
+        if !turn.known() && frame.1 > turn.end() {
             return Err(Fault::TooEarly(next));
         }
         let answer = self.answer(&window, frame);

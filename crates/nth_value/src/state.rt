@@ -32,8 +32,7 @@ impl<K: Kind> NthValueState<K> {
     {
         NthValueState {
             last_answer: answer,
-            mark: self.mark.max(frame.0),
-            ..self
+            ..self.raised(frame.0)
         }
     }
 

@@ -19,8 +19,7 @@ pub(crate) fn write_all<K: Kind, O: Output<Option<K>>>(
     frames: &[(usize, usize)],
     out: &mut O,
 )
-    // what the call's check has told of the column, the frames and the output; a struct that holds it is longer, and has this one use
-    requires lengths { length column.now.values.now ≡ length column.now.marks.now }
+    // the contract speaks of the lent column and output themselves; a struct that held what the check told would be unpacked in every clause
     requires framed { length frames.now ≡ length column.now.values.now }
     requires fit { (i : ℕ) → i < length frames.now → ((slice_index_or frames.now i (0, 0)).0 ≤ (slice_index_or frames.now i (0, 0)).1) × ((slice_index_or frames.now i (0, 0)).1 ≤ length column.now.values.now) }
     requires room { length column.now.values.now ≤ O.Output.size (O.Output.slots out.old) }
@@ -32,10 +31,9 @@ pub(crate) fn write_all<K: Kind, O: Output<Option<K>>>(
         begin: 0,
         rows: *column,
     };
-    let n = column.values.len();
-    let mut cursor = Cursor::new(seek, &window, n);
+    let mut cursor = Cursor::new(seek, &window);
     for (i, frame) in frames.iter().enumerate() {
-        let row = cursor.find(&window, n, *frame);
+        let row = cursor.find(&window, *frame);
         out.put(i, cell_of(&window, row));
     }
 }

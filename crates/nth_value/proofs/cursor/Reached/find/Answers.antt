@@ -3,13 +3,14 @@ use Rattle.std.specs.List.{slice_get}
 use Rattle.column.specs.Cells.{view}
 use Rattle.present.specs.Present.{ahead}
 use Rattle.present.proofs.Parts.{up_to}
+use Rattle.nth_value.specs.Cursors.{window_end}
 use Rattle.nth_value.proofs.Cursors.{ahead_found}
 use Rattle.nth_value.proofs.cursor.Reached.find.Goals as goal
 
 pub returns-clause-found : goal.returns-clause-found
 returns-clause-found g c k =
     let w = view c.args.window.now in
-    let n = c.args.n in
+    let n = window_end c.args.window.now in
     let m = c.args.self.now.m in
     let s = c.args.frame.0 in
     let here : c.loop-row.row ≡ s = omega (arith, c.loop-row-test.false, c.loop-row.auto.row-end) in
