@@ -1,20 +1,33 @@
 -- The cells of a column, by place.
-use Rattle.std.proofs.Common.{◌≡◌, ℕ, zero, suc, ◌-◌, ◌<◌, ◌≤◌, Bool, true, false, ltb, List, [], ◌∷◌, length, get_or, map, Vec, Result, IfOk, Option, Some, None, sym, refl, ap, ◌∙◌, arith}
-use Rattle.std.proofs.lemmas.Bool.{cond-false, le-ltb}
+use Rattle.std.proofs.Common.{◌≡◌, ℕ, zero, suc, ◌-◌, ◌<◌, ◌≤◌, Bool, true, false, ltb, List, [], ◌∷◌, length, get_or, map, Vec, Result, IfOk, Option, Some, None, refl, ap, ◌∙◌, ⊎_elim, arith}
+use Rattle.std.proofs.lemmas.Bool.{cases_Bool, cond-false, le-ltb}
 use Rattle.std.proofs.lemmas.Result.{IfOk-weaker}
 use Rattle.std.specs.Bool.{then_some}
 use Rattle.std.specs.List.{zip}
 use Rattle.column.specs.declared.column.Column.{Column}
 use Rattle.column.specs.Cells.{cells, column_cells, view}
 
+-- the cell of a row that is marked present
+pub cell_present : {V : Type 0} (vs : List V) (ms : List Bool) (k : ℕ) (x : V) → x ≡ get_or vs k x → k < length vs → get_or ms k false ≡ true → Some x ≡ get_or (cells vs ms) k None
+cell_present [] ms k x e h m = absurd (omega arith)
+cell_present (v ∷ vs) [] k x e h m = let z : ◌≡◌ {A = ℕ} 0 1 = cc in absurd (omega arith)
+cell_present (v ∷ vs) (true ∷ ms) zero x e h m = ap Some e
+cell_present (v ∷ vs) (false ∷ ms) zero x e h m = let z : ◌≡◌ {A = ℕ} 0 1 = cc in absurd (omega arith)
+cell_present (v ∷ vs) (true ∷ ms) (suc k) x e h m = cell_present vs ms k x e (omega arith) m
+cell_present (v ∷ vs) (false ∷ ms) (suc k) x e h m = cell_present vs ms k x e (omega arith) m
+
+-- the cell of a row that is marked NULL
+pub cell_null : {V : Type 0} (vs : List V) (ms : List Bool) (k : ℕ) → get_or ms k false ≡ false → None ≡ get_or (cells vs ms) k None
+cell_null [] ms k m = refl
+cell_null (v ∷ vs) [] k m = refl
+cell_null (v ∷ vs) (true ∷ ms) zero m = let z : ◌≡◌ {A = ℕ} 0 1 = cc in absurd (omega arith)
+cell_null (v ∷ vs) (false ∷ ms) zero m = refl
+cell_null (v ∷ vs) (true ∷ ms) (suc k) m = cell_null vs ms k m
+cell_null (v ∷ vs) (false ∷ ms) (suc k) m = cell_null vs ms k m
+
 -- the cell of a row that has a value
 pub cell_within : {V : Type 0} (vs : List V) (ms : List Bool) (k : ℕ) (x : V) → x ≡ get_or vs k x → k < length vs → then_some (get_or ms k false) x ≡ get_or (cells vs ms) k None
-cell_within [] ms k x e h = absurd (omega arith)
-cell_within (v ∷ vs) [] k x e h = refl
-cell_within (v ∷ vs) (true ∷ ms) zero x e h = ap Some e
-cell_within (v ∷ vs) (false ∷ ms) zero x e h = refl
-cell_within (v ∷ vs) (true ∷ ms) (suc k) x e h = cell_within vs ms k x e (omega arith)
-cell_within (v ∷ vs) (false ∷ ms) (suc k) x e h = cell_within vs ms k x e (omega arith)
+cell_within vs ms k x e h = ⊎_elim (λ t. ap (λ b. then_some b x) t ∙ cell_present vs ms k x e h t) (λ f. ap (λ b. then_some b x) f ∙ cell_null vs ms k f) (cases_Bool (get_or ms k false))
 
 -- past the values
 pub cell_past : {V : Type 0} (vs : List V) (ms : List Bool) (k : ℕ) → length vs ≤ k → None ≡ get_or (cells vs ms) k None

@@ -45,7 +45,7 @@ impl<'a, K> Window<'a, K> {
     }
 }
 
-// The values with a true mark, NULL for the others.
+// The values with a true mark, NULL for the others; no `then_some`, which would read the value at a NULL row.
 fn marked_values<K: Kind>(
     heap: Global,
     values: &[K],
@@ -56,7 +56,7 @@ fn marked_values<K: Kind>(
     values
         .iter()
         .zip(marks)
-        .map(|(value, mark)| mark.then_some(*value))
+        .map(|(value, mark)| if *mark { Some(*value) } else { None })
         .collect(heap)
 }
 
@@ -69,12 +69,14 @@ impl<K: Kind> Column<'_, K> {
     }
 
     // The cell of a row; past the end NULL.
-    #[tactic(auto, using(crate::proofs::Cells::cell_within, crate::proofs::Cells::cell_past))]
+    #[tactic(auto, using(crate::proofs::Cells::cell_present, crate::proofs::Cells::cell_past, crate::proofs::Cells::cell_null))]
     pub fn cell(&self, row: usize) -> Option<K>
         ensures { result ≡ slice_index_or (column_cells self.now) row None }
     {
-        let value = self.values.get(row)?;
-        self.is_marked(row).then_some(*value)
+        if !self.is_marked(row) {
+            return None;
+        }
+        Some(*self.values.get(row)?)
     }
 
     // All cells, as many as the shorter list has.

@@ -2,7 +2,7 @@ use column::fault::Fault;
 use column::kind::Instant;
 use evaluator::cells::evaluate_cells;
 use evaluator::utils::Argument;
-use nth_value::NthValue;
+use nth_value::{NthValue, cases_hold};
 use partition::whole::WholePartition;
 use std::process::Abort;
 use std::test::Fail;
@@ -43,6 +43,11 @@ fn check_answers(
 }
 
 #[test]
+fn worked_cases(rt: HostRuntime) {
+    assert_eq!(rt; cases_hold(), 7);
+}
+
+#[test]
 fn ends(rt: HostRuntime) -> Result<(), Fail> {
     check_answers(&rt, &NthValue::first(false), [5, 5, 77, 77, 9, 5])?;
     check_answers(&rt, &NthValue::last(false), [5, 7, 77, 77, 9, 9])?;
@@ -53,6 +58,8 @@ fn ends(rt: HostRuntime) -> Result<(), Fail> {
 // The worked frame (1, 4) is row 2; a frame of exactly n rows has an n-th row, and n + 1 is past its end.
 #[test]
 fn counted(rt: HostRuntime) -> Result<(), Fail> {
+    let one = NthValue::nth(Argument::Signed(1), false)?;
+    check_answers(&rt, &one, [5, 5, 77, 77, 9, 5])?;
     let two = NthValue::nth(Argument::Signed(2), false)?;
     check_answers(&rt, &two, [77, 77, 7, 77, 77, 77])?;
     let two_present = NthValue::nth(Argument::Signed(2), true)?;
@@ -67,12 +74,34 @@ fn counted(rt: HostRuntime) -> Result<(), Fail> {
 
 #[test]
 fn from_the_end(rt: HostRuntime) -> Result<(), Fail> {
+    let own_last = NthValue::nth(Argument::Signed(-1), false)?;
+    check_answers(&rt, &own_last, [5, 7, 77, 77, 9, 9])?;
     let last = NthValue::nth(Argument::Signed(-1), true)?;
     check_answers(&rt, &last, [5, 7, 7, 77, 9, 9])?;
     let third = NthValue::nth(Argument::Signed(-3), false)?;
     check_answers(&rt, &third, [77, 5, 77, 77, 77, 77])?;
     let third_present = NthValue::nth(Argument::Signed(-3), true)?;
     check_answers(&rt, &third_present, [77, 77, 77, 77, 77, 5])
+}
+
+// Of frames with no present row all answers are NULL.
+#[test]
+fn all_null(rt: HostRuntime) -> Result<(), Fail> {
+    let rows = WholePartition::new(&VALUES, &[false; 6], &FRAMES, &[]);
+    for ignore_nulls in [false, true] {
+        for function in [
+            NthValue::first(ignore_nulls),
+            NthValue::last(ignore_nulls),
+            NthValue::nth(Argument::Signed(1), ignore_nulls)?,
+            NthValue::nth(Argument::Signed(-1), ignore_nulls)?,
+        ] {
+            let mut out = [Instant(77); 6];
+            let mut present = [true; 6];
+            evaluate_cells(&function, &rows, &mut out, &mut present)?;
+            assert_eq!(rt; (out, present), ([Instant(77); 6], [false; 6]));
+        }
+    }
+    Ok(())
 }
 
 // 0, NULL and the extremes count to no row.

@@ -35,7 +35,7 @@ fn null_not_fixed(rt: HostRuntime) {
     assert_eq!(rt; run.request(&more, Some((0, 3))), Ok(Some(Instant(7))));
 }
 
-// LAST holds one row, NTH −2 two; NTH 2 is fixed once more than two answers were given.
+// LAST holds one row, NTH −2 two; NTH 2 is fixed once more than two answers were given. What lies below the mark is not shown again.
 #[test]
 fn others_settled(rt: HostRuntime) -> Result<(), Fail> {
     let all = Window::new(0, &VALUES, &[true; 4]);
@@ -43,6 +43,8 @@ fn others_settled(rt: HostRuntime) -> Result<(), Fail> {
     assert_eq!(rt; last.request(&all, Some((0, 3))), Ok(Some(Instant(7))));
     assert_eq!(rt; last.settle(), Ok(()));
     assert_eq!(rt; last.keep_mark(), 2);
+    let from_two = Window::new(2, &VALUES[2..4], &[true; 2]);
+    assert_eq!(rt; last.request(&from_two, Some((0, 4))), Ok(Some(Instant(8))));
     let mut second_last = Open::new(&NthValue::nth(Argument::Signed(-2), false)?, true);
     assert_eq!(rt;
         second_last.request(&all, Some((0, 3))),
@@ -50,6 +52,11 @@ fn others_settled(rt: HostRuntime) -> Result<(), Fail> {
     );
     assert_eq!(rt; second_last.settle(), Ok(()));
     assert_eq!(rt; second_last.keep_mark(), 1);
+    let from_one = Window::new(1, &VALUES[1..4], &[true; 3]);
+    assert_eq!(rt;
+        second_last.request(&from_one, Some((0, 4))),
+        Ok(Some(Instant(7)))
+    );
     let mut second = Open::new(&NthValue::nth(Argument::Signed(2), false)?, true);
     assert_eq!(rt; second.request(&all, Some((0, 2))), Ok(Some(Instant(6))));
     assert_eq!(rt; second.request(&all, Some((0, 3))), Ok(Some(Instant(6))));
@@ -58,6 +65,10 @@ fn others_settled(rt: HostRuntime) -> Result<(), Fail> {
     assert_eq!(rt; second.request(&all, Some((0, 3))), Ok(Some(Instant(6))));
     assert_eq!(rt; second.settle(), Ok(()));
     assert_eq!(rt; second.keep_mark(), 2);
+    assert_eq!(rt;
+        second.request(&from_two, Some((0, 4))),
+        Ok(Some(Instant(6)))
+    );
     Ok(())
 }
 

@@ -1,3 +1,4 @@
+// Ported from the crate datafusion-functions-window 55.0.0 (Apache-2.0), and changed: its modules on ranks, as each of the files here says.
 #![tactic(auto)]
 
 ghost use Rattle.rank.specs.Cases.{Cases};

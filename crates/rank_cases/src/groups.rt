@@ -60,6 +60,10 @@ fn row_limit(rt: HostRuntime) -> Result<(), Fail> {
     let mut groups = [(7, 7); 1];
     let more = last_of(&values, &marks, &mut groups, &mut out);
     assert_eq!(rt; more, Err(Fault::RowLimit(ROW_LIMIT)));
+    let rows = WholePartition::new(values.as_slice(), marks.as_slice(), &[], &groups);
+    let answered = CumeDist::new().evaluate_all(&rows, &mut Numbers { list: &mut out });
+    assert_eq!(rt; answered, Err(Fault::RowLimit(ROW_LIMIT)));
+    assert!(rt; groups == [(7, 7)] && out.last() == Some(&0.0));
     values.truncate(ROW_LIMIT);
     marks.truncate(ROW_LIMIT);
     let all = last_of(&values, &marks, &mut groups, &mut out);

@@ -45,6 +45,20 @@ fn worked_case(rt: HostRuntime) -> Result<(), Fail> {
     Ok(())
 }
 
+// NULL keys form a group of their own, each run of them.
+#[test]
+fn null_keys(rt: HostRuntime) -> Result<(), Fail> {
+    let marks = [false, false, true, false];
+    let groups = [(0, 2), (2, 3), (3, 4)];
+    let rows = WholePartition::new(&KEYS[0..4], &marks, &[], &groups);
+    let mut out = [77; 5];
+    Rank::new(RankType::Basic).evaluate_all(&rows, &mut Numbers { list: &mut out })?;
+    assert_eq!(rt; out, [1, 1, 3, 4, 77]);
+    Rank::new(RankType::Dense).evaluate_all(&rows, &mut Numbers { list: &mut out })?;
+    assert_eq!(rt; out, [1, 1, 2, 3, 77]);
+    Ok(())
+}
+
 // Groups that are not the keys' are refused, and so are none at all.
 #[test]
 fn refused(rt: HostRuntime) {
