@@ -7,7 +7,8 @@ use crate::stop::Bad;
 use column::kind::Kind;
 use std::fmt;
 
-// What a word of a line stands for; `Shown` has its `Display`, which these types cannot be given here: they are std's or another crate's.
+// What a word of a line stands for.
+// `Shown` has its `Display`, which would have to stand in std or in `column`, which know nothing of lines.
 pub trait Text: Copy {
     ghost text: { Self → List ℕ };
 
