@@ -66,7 +66,7 @@ impl<K: Value> Written<'_, K> {
     fn is_writable(&self, i: usize) -> bool
         ensures { result ≡ writable self.now.lists.marks.now self.now.answers i }
     {
-        i < self.answers && self.lists.marks.get(i) == Some(&true)
+        i < self.answers && self.lists.is_marked(i)
     }
 
     // Whether the values that the call must not touch hold the pattern; a `zip` would pass over those behind the last mark.
