@@ -1,1 +1,3 @@
+mod Numbers
 pub mod Passed
+mod Shown
