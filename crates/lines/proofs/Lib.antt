@@ -1,3 +1,4 @@
+mod Fields
 mod Numbers
 pub mod Passed
 mod Shown

@@ -19,13 +19,13 @@ next_byte (x ∷ xs) (suc a) b rest e =
     let step : suc a + 1 ≡ suc (a + 1) = omega arith in
     (h.0, ap (λ n. drop n (x ∷ xs)) step ∙ h.1)
 
-byte_at : (xs bs : List ℕ) (a i : ℕ) → drop a xs ≡ bs → slice_index xs (a + i) ≡ get_or bs i 0
+pub byte_at : (xs bs : List ℕ) (a i : ℕ) → drop a xs ≡ bs → slice_index xs (a + i) ≡ get_or bs i 0
 byte_at xs bs a i e = sym (get_or-drop a xs i 0) ∙ ap (λ l. get_or l i 0) e
 
-room : (xs bs rest : List ℕ) (a : ℕ) → drop a xs ≡ bs ++ rest → length xs - a ≡ length bs + length rest
+pub room : (xs bs rest : List ℕ) (a : ℕ) → drop a xs ≡ bs ++ rest → length xs - a ≡ length bs + length rest
 room xs bs rest a e = sym (length-drop a xs) ∙ ap length e ∙ length-append bs rest
 
-seam : (ds rest : List ℕ) → get_or (ds ++ rest) (length ds) 0 ≡ get_or rest 0 0
+pub seam : (ds rest : List ℕ) → get_or (ds ++ rest) (length ds) 0 ≡ get_or rest 0 0
 seam ds rest = ap (λ k. get_or (ds ++ rest) k 0) (omega arith) ∙ get_or-append-add ds rest 0 0
 
 digits_end : (xs ds rest : List ℕ) (a e : ℕ) → drop a xs ≡ ds ++ rest → AllDigits 10 ds → Ends rest → a ≤ e → e ≤ length xs → (e < length xs → ¬ (IsInRange 48 57 (slice_index xs e))) → ((k : ℕ) → a + k < e → IsInRange 48 57 (slice_index xs (a + k))) → e ≡ a + length ds

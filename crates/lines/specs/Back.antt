@@ -1,5 +1,5 @@
 -- What is shown is read back.
-use Rattle.std.specs.Prelude.{◌≡◌, ℕ, cond, List, ◌++◌, drop, Result, Ok, slice_index}
+use Rattle.std.specs.Prelude.{◌≡◌, ℕ, ◌<◌, cond, List, ◌++◌, length, drop, Result, Ok, slice_index}
 use Rattle.std.specs.Int.{IsInRange}
 use Rattle.std.specs.Str.Parse.{IsNumeral, starts_with_minus}
 use Rattle.lines.specs.Cursors.{ahead}
@@ -8,6 +8,10 @@ use Rattle.lines.specs.declared.cursor.Cursor.{Cursor}
 -- what stands behind a value does not go on with a digit
 abbrev pub Ends : List ℕ → Type 0
 Ends rest = ¬ (IsInRange 48 57 (slice_index rest 0))
+
+-- behind a field stands nothing, or a blank
+abbrev pub EndsField : List ℕ → Type 0
+EndsField rest = 0 < length rest → slice_index rest 0 ≡ 32
 
 -- digits, which a minus sign may precede
 abbrev pub IsNumber : List ℕ → Type 0

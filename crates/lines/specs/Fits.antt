@@ -1,5 +1,5 @@
 -- The values of a type: their numbers are in its range.
-use Rattle.std.specs.Prelude.{◌≢◌, ℕ, ◌<◌, ◌^◌, ⊤, Bool, List, length, Option, Some, None, slice_index, FitsSigned}
+use Rattle.std.specs.Prelude.{◌≢◌, ℕ, ◌<◌, ◌^◌, ⊤, List, length, Option, Some, None, slice_index, FitsSigned}
 use Rattle.std.specs.Int.{w64}
 use Rattle.column.specs.declared.kind.Instant.{Instant}
 use Rattle.column.specs.declared.kind.Pseudonym.{Pseudonym}
@@ -29,9 +29,6 @@ PairFits FirstFits SecondFits x = FirstFits x.first × SecondFits x.second
 abbrev pub CellFits : {V : Type 0} → (V → Type 0) → (V → List ℕ) → Option V → Type 0
 CellFits ValueFits value_text None = ⊤
 CellFits ValueFits value_text (Some v) = ValueFits v × (0 < length (value_text v)) × (slice_index (value_text v) 0 ≢ 95)
-
-abbrev pub MarkFits : Bool → Type 0
-MarkFits mark = ⊤
 
 abbrev pub SpanFits : ℕ × ℕ → Type 0
 SpanFits x = (x.0 < 2 ^ 64) × (x.1 < 2 ^ 64)

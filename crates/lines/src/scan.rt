@@ -1,10 +1,10 @@
 // The steps of a cursor: none goes backward.
 // `Onward` stands at each: it relates two moments of a cursor, which no invariant of one moment can.
 // `IsCharBoundary` is a premise and no ghost field: `take` and `run` go by bytes, so they may stop inside a character.
-ghost use Rattle.std.specs.Prelude.{◌≡◌, ◌≢◌, ℕ, List, [], ◌∷◌, ◌++◌, drop, ◌+◌, ◌-◌, ◌<◌, ◌≤◌, T, false, true, length, IfOk, if◌then◌else◌, Ok, OnOk, nat_le, slice_get, slice_index, slice_range};
+ghost use Rattle.std.specs.Prelude.{◌≡◌, ◌≢◌, ℕ, List, [], ◌∷◌, ◌++◌, drop, ◌+◌, ◌-◌, ◌^◌, ◌<◌, ◌≤◌, T, false, true, length, IfOk, if◌then◌else◌, Ok, OnOk, MatchResult, decimal, nat_le, slice_get, slice_index, slice_range};
 ghost use Rattle.std.specs.Int.{IsInRange};
 ghost use Rattle.std.specs.Str.{IsCharBoundary};
-ghost use Rattle.std.specs.Range.{range_inclusive_start, range_inclusive_end};
+ghost use Rattle.std.specs.Range.{range_inclusive_start, range_inclusive_end, range_inclusive_exhausted};
 ghost use Rattle.lines.specs.Back.{Ends, IsNumber, IsReadAs, ReadsBack};
 ghost use Rattle.lines.specs.Cursors.{Onward, ahead, passed};
 ghost use Rattle.lines.specs.Reads.{ReadsUnsigned};
@@ -128,6 +128,7 @@ impl<'a> Cursor<'a> {
     pub fn number_in(&mut self, range: RangeInclusive<usize>) -> Result<usize, Bad>
         ensures within { IfOk result (λ n. (range_inclusive_start range ≤ n) × (n ≤ range_inclusive_end range)) }
         ensures reads { IfOk result (λ n. ReadsUnsigned (passed self.old self.new) n) }
+        ensures back { (n : ℕ) → IsInRange (range_inclusive_start range) (range_inclusive_end range) n → range_inclusive_exhausted range ≡ false → n < 2 ^ 64 → ReadsBack (decimal n) n self.old result self.new }
         ensures onward { Onward self.old self.new }
     {
         let start = self.bad();
@@ -180,7 +181,7 @@ impl<'a> Cursor<'a> {
 
     // Asks that the line ends here.
     pub fn end(&self) -> Result<(), Bad>
-        ensures { OnOk result (length self.now.text.now ≡ self.now.at) }
+        ensures { MatchResult result (λ _. length self.now.text.now ≡ self.now.at) (λ _. self.now.at < length self.now.text.now) }
     {
         if self.is_end() {
             return Ok(());

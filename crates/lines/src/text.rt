@@ -1,4 +1,4 @@
-ghost use Rattle.std.specs.Prelude.{ℕ, List, IfOk, Some};
+ghost use Rattle.std.specs.Prelude.{ℕ, ⊤, List, IfOk, Some};
 ghost use Rattle.std.specs.Fmt.{WritesOnOk};
 ghost use Rattle.lines.specs.Back.{ReadsBack};
 ghost use Rattle.lines.specs.Cursors.{Onward, passed};
@@ -17,7 +17,7 @@ pub trait Text: Copy {
     ghost reads: { List ℕ → Self → Type 0 };
 
     // Holds of the values of the type; a number in a clause may be any.
-    ghost fits: { Self → Type 0 };
+    ghost fits: { Self → Type 0 } = { λ _. ⊤ };
 
     fn read(cursor: &mut Cursor<'_>) -> Result<Self, Bad>
         ensures reads { IfOk result (λ x. reads (passed cursor.old cursor.new) x) }

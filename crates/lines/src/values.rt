@@ -1,4 +1,4 @@
-ghost use Rattle.lines.specs.Fits.{InstantFits, PseudonymFits, CodeFits, OutcomeFits, PairFits, CellFits, MarkFits, SpanFits};
+ghost use Rattle.lines.specs.Fits.{InstantFits, PseudonymFits, CodeFits, OutcomeFits, PairFits, CellFits, SpanFits};
 ghost use Rattle.lines.specs.Reads.{ReadsInstant, ReadsPseudonym, ReadsCode, ReadsOutcome, ReadsPair, ReadsCell, ReadsMark, ReadsSpan};
 ghost use Rattle.lines.specs.Texts.{instant_text, pseudonym_text, code_text, outcome_text, pair_text, cell_text, mark_text, span_text};
 
@@ -173,8 +173,6 @@ impl Text for bool {
     ghost text = { mark_text };
 
     ghost reads = { ReadsMark };
-
-    ghost fits = { MarkFits };
 
     fn read(cursor: &mut Cursor<'_>) -> Result<bool, Bad> {
         if cursor.take(b'1') {
