@@ -1,4 +1,5 @@
 mod Fields
+pub mod Lists
 mod Numbers
 pub mod Passed
 mod Shown

@@ -1,5 +1,5 @@
 -- The values of a type: their numbers are in its range.
-use Rattle.std.specs.Prelude.{◌≢◌, ℕ, ◌<◌, ◌^◌, ⊤, List, length, Option, Some, None, slice_index, FitsSigned}
+use Rattle.std.specs.Prelude.{◌≢◌, ℕ, ◌<◌, ◌^◌, ⊤, List, [], ◌∷◌, length, Option, Some, None, slice_index, FitsSigned}
 use Rattle.std.specs.Int.{w64}
 use Rattle.column.specs.declared.kind.Instant.{Instant}
 use Rattle.column.specs.declared.kind.Pseudonym.{Pseudonym}
@@ -32,3 +32,8 @@ CellFits ValueFits value_text (Some v) = ValueFits v × (0 < length (value_text 
 
 abbrev pub SpanFits : ℕ × ℕ → Type 0
 SpanFits x = (x.0 < 2 ^ 64) × (x.1 < 2 ^ 64)
+
+-- each fits, and its text is not empty and does not begin as a list ends
+abbrev pub ListFits : {V : Type 0} → (V → Type 0) → (V → List ℕ) → List V → Type 0
+ListFits ValueFits value_text [] = ⊤
+ListFits ValueFits value_text (x ∷ xs) = ValueFits x × (0 < length (value_text x)) × (slice_index (value_text x) 0 ≢ 93) × ListFits ValueFits value_text xs
