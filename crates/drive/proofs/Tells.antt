@@ -1,6 +1,5 @@
 -- What a call on a whole partition tells, from what it left.
-use Rattle.std.proofs.Common.{◌≡◌, ◌⊎◌, inr, ℕ, min, Bool, false, List, take, map, Option, Some, None, Result, Ok, Err, IfOk, sym, refl, ap, ◌∙◌, subst}
-use Rattle.std.specs.List.{range_with_len}
+use Rattle.std.proofs.Common.{◌≡◌, ℕ, min, Bool, false, List, take, Option, Some, None, Result, Ok, Err, sym, ap, ◌∙◌}
 use Rattle.column.specs.declared.fault.Fault.{Fault}
 use Rattle.column.specs.Refusal.{passes}
 use Rattle.column.specs.Cells.{cells}

@@ -91,7 +91,7 @@ fn answer_at<K: Value>(heap: Global, text: &str) -> Result<String, Stop> {
     cursor.field();
     cursor.expect(b' ')?;
     let made = WindowShift::try_from(shift);
-    // the shift stands between the form and its rest: a function kept in the form's place would want one more, for the mirror
+    // the shift is read between the form's letter and its rest, so the form is kept as a value
     match form {
         Form::Whole => whole_line(heap, text, &mut cursor, made),
         Form::Mirror => whole_line(heap, text, &mut cursor, made.map(|shift| shift.mirror())),

@@ -56,17 +56,17 @@ fn read_handed<K: Value>(heap: Global, cursor: &mut Cursor<'_>) -> Result<Handed
 
 // The output lists after a call, and how many answers it gave.
 #[derive(Clone, Copy)]
-struct Output<'a, K> {
+struct Written<'a, K> {
     lists: Column<'a, K>,
     answers: usize,
 }
 
-impl<K: Value> Output<'_, K> {
+impl<K: Value> Written<'_, K> {
     // Whether the call may write the value of row `i`: NULL is written as a mark alone.
     fn is_writable(&self, i: usize) -> bool
         ensures { result ≡ writable self.now.lists.marks.now self.now.answers i }
     {
-        i < self.answers && self.lists.marks.get(i) == Some(&true)
+        i < self.answers && self.lists.is_marked(i)
     }
 
     // Whether the values that the call must not touch hold the pattern; a `zip` would pass over those behind the last mark.
@@ -105,33 +105,32 @@ fn call<K: Value>(
     ensures { IfOk result (λ s. TellsWhole K.Kind.same K.Text.text shift.now handed.now (string_bytes s)) }
 {
     let pattern = K::pattern();
-    let mut values = vec![in heap; pattern; handed.values]?;
-    let mut marks = vec![in heap; true; handed.marks]?;
+    let mut lists = Lists {
+        values: vec![in heap; pattern; handed.values]?,
+        marks: vec![in heap; true; handed.marks]?,
+    };
     let rows = WholePartition::new(
         handed.column.values.as_slice(),
         handed.column.marks.as_slice(),
         handed.frames.as_slice(),
         handed.groups.as_slice(),
     );
-    let made = evaluate_cells(shift, &rows, values.as_mut_slice(), marks.as_mut_slice());
-    // an `if`: the closure of a `map_or` that holds these rows gets no clause
-    let answers = if made.is_ok() {
-        rows.column.values.len()
-    } else {
-        0
+    let row_count = rows.column.values.len();
+    let made = evaluate_cells(
+        shift,
+        &rows,
+        lists.values.as_mut_slice(),
+        lists.marks.as_mut_slice(),
+    );
+    let written = Written {
+        lists: lists.as_column(),
+        answers: made.map_or(0, |()| row_count),
     };
-    let output = Output {
-        lists: Column {
-            values: values.as_slice(),
-            marks: marks.as_slice(),
-        },
-        answers,
-    };
-    if !output.values_kept(pattern) || !output.marks_kept() {
+    if !written.values_kept(pattern) || !written.marks_kept() {
         return String::from_str(heap, "clobbered");
     }
     match made {
-        Ok(()) => output.show(heap),
+        Ok(()) => written.show(heap),
         Err(fault) => Refusal(fault).to_string(heap),
     }
 }

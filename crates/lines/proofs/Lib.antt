@@ -1,1 +1,5 @@
+mod Fields
+pub mod Lists
+mod Numbers
 pub mod Passed
+mod Shown

@@ -2,7 +2,7 @@
 use Rattle.std.proofs.Common.{◌≡◌, ℕ, ◌+◌, ◌-◌, ◌≤◌, Bool, false, cond, List, ◌++◌, take, drop, slice_range, sym, ap, ◌∙◌, arith}
 use Rattle.std.proofs.lemmas.List.{drop-drop}
 use Rattle.std.proofs.Math.Seq.{take-add}
-use Rattle.lines.specs.Cursors.{Onward, passed}
+use Rattle.lines.specs.Cursors.{Onward, ahead, passed}
 use Rattle.lines.specs.declared.cursor.Cursor.{Cursor}
 
 slice_join : {X : Type 0} (xs : List X) (a b c : ℕ) → a ≤ b → b ≤ c → slice_range xs a c ≡ slice_range xs a b ++ slice_range xs b c
@@ -27,6 +27,10 @@ pub stood : (a b c : Cursor) (took : Bool) → took ≡ false → b.at ≡ cond 
 stood a b c took f step h =
     ap (λ l. slice_range l a.at c.at) (sym h.0)
     ∙ ap (λ n. slice_range b.text.now n c.at) (sym (step ∙ ap (λ v. cond v (a.at + 1) a.at) f))
+
+-- and stands where it stood
+pub still : (a b : Cursor) (took : Bool) → took ≡ false → b.at ≡ cond took (a.at + 1) a.at → Onward a b → ahead b ≡ ahead a
+still a b took f step h = ap (λ l. drop b.at l) h.0 ∙ ap (λ n. drop n a.text.now) (step ∙ ap (λ v. cond v (a.at + 1) a.at) f)
 
 -- a text, and what comes behind it
 pub led : (a b c : Cursor) (text : List ℕ) → Onward a b → Onward b c → passed a b ≡ text → passed a c ≡ text ++ passed b c

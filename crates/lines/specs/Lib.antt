@@ -1,4 +1,6 @@
+pub mod Back
 pub mod Cursors
+pub mod Fits
 pub mod Kinds
 pub mod Reads
 pub mod Texts

@@ -1,6 +1,7 @@
-ghost use Rattle.std.specs.Prelude.{◌≡◌, IfOk};
+ghost use Rattle.std.specs.Prelude.{◌≡◌, ℕ, List, ◌++◌, IfOk, Ok};
 ghost use Rattle.std.specs.Str.{IsCharBoundary};
-ghost use Rattle.lines.specs.Cursors.{Onward, passed};
+ghost use Rattle.lines.specs.Back.{EndsField};
+ghost use Rattle.lines.specs.Cursors.{Onward, ahead, passed};
 ghost use Rattle.lines.specs.Kinds.{NamesKind, kind_text};
 
 use crate::cursor::Cursor;
@@ -42,6 +43,7 @@ impl FromStr for KindName {
 
 pub fn read_kind(cursor: &mut Cursor<'_>) -> Result<KindName, Bad>
     ensures reads { IsCharBoundary cursor.old.text.now cursor.old.at → IfOk result (λ k. passed cursor.old cursor.new ≡ kind_text k) }
+    ensures back { (k : KindName) (rest : List ℕ) → ahead cursor.old ≡ kind_text k ++ rest → EndsField rest → (result ≡ Ok k) × (ahead cursor.new ≡ rest) }
     ensures onward { Onward cursor.old cursor.new }
 {
     let start = cursor.bad();

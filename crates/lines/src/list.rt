@@ -1,5 +1,7 @@
-ghost use Rattle.std.specs.Prelude.{Some};
-ghost use Rattle.lines.specs.Cursors.{Onward};
+ghost use Rattle.std.specs.Prelude.{◌≡◌, ℕ, List, ◌++◌, MatchResult, Some};
+ghost use Rattle.lines.specs.Cursors.{Onward, ahead};
+ghost use Rattle.lines.specs.Fits.{ListFits};
+ghost use Rattle.lines.specs.declared.stop.Stop.TheVariants.{Memory};
 ghost use Rattle.lines.specs.Texts.{list_text};
 
 use crate::cursor::Cursor;
@@ -10,7 +12,8 @@ use std::fmt;
 
 // `[x,y,..]`.
 pub fn read_list<T: Text>(heap: Global, cursor: &mut Cursor<'_>) -> Result<Vec<T>, Stop>
-    ensures { Onward cursor.old cursor.new }
+    ensures back { (xs : List T) (rest : List ℕ) → ListFits T.Text.fits T.Text.text xs → ahead cursor.old ≡ list_text T.Text.text xs ++ rest → MatchResult result (λ v. (v.items ≡ xs) × (ahead cursor.new ≡ rest)) (λ s. s ≡ Memory) }
+    ensures onward { Onward cursor.old cursor.new }
 {
     let mut items = Vec::new(heap);
     cursor.expect(b'[')?;

@@ -1,10 +1,12 @@
 // The steps of a cursor: none goes backward.
 // `Onward` stands at each: it relates two moments of a cursor, which no invariant of one moment can.
-ghost use Rattle.std.specs.Prelude.{◌≡◌, ◌≢◌, ℕ, [], ◌∷◌, ◌+◌, ◌-◌, ◌<◌, ◌≤◌, T, false, true, length, IfOk, if◌then◌else◌, Ok, OnOk, nat_le, slice_get, slice_index, slice_range};
+// `IsCharBoundary` is a premise and no ghost field: `take` and `run` go by bytes, so they may stop inside a character.
+ghost use Rattle.std.specs.Prelude.{◌≡◌, ◌≢◌, ℕ, List, [], ◌∷◌, ◌++◌, drop, ◌+◌, ◌-◌, ◌^◌, ◌<◌, ◌≤◌, T, false, true, length, IfOk, if◌then◌else◌, Ok, OnOk, MatchResult, decimal, nat_le, slice_get, slice_index, slice_range};
 ghost use Rattle.std.specs.Int.{IsInRange};
 ghost use Rattle.std.specs.Str.{IsCharBoundary};
-ghost use Rattle.std.specs.Range.{range_inclusive_start, range_inclusive_end};
-ghost use Rattle.lines.specs.Cursors.{Onward, passed};
+ghost use Rattle.std.specs.Range.{range_inclusive_start, range_inclusive_end, range_inclusive_exhausted};
+ghost use Rattle.lines.specs.Back.{Ends, IsNumber, IsReadAs, ReadsBack};
+ghost use Rattle.lines.specs.Cursors.{Onward, ahead, passed};
 ghost use Rattle.lines.specs.Reads.{ReadsUnsigned};
 
 use crate::cursor::Cursor;
@@ -29,7 +31,8 @@ fn run_end<F: Fn(u8) -> bool>(text: &[u8], from: usize, passes: F) -> usize
 // The end of the number that begins at a place: a minus sign, then digits.
 fn number_end(text: &[u8], from: usize) -> usize
     requires { from ≤ length text.now }
-    ensures { (from ≤ result) × (result ≤ length text.now) }
+    ensures within { (from ≤ result) × (result ≤ length text.now) }
+    ensures back { (bs rest : List ℕ) → drop from text.now ≡ bs ++ rest → Ends rest → IsNumber bs → result ≡ from + length bs }
 {
     let digits = if text.get(from) == Some(&b'-') {
         from + 1
@@ -82,6 +85,7 @@ impl<'a> Cursor<'a> {
         ensures step { self.new.at ≡ (if result then self.old.at + 1 else self.old.at) }
         ensures found { T result → slice_index self.old.text.now self.old.at ≡ byte }
         ensures text { T result → passed self.old self.new ≡ byte ∷ [] }
+        ensures back { (rest : List ℕ) → ahead self.old ≡ byte ∷ rest → T result × (ahead self.new ≡ rest) }
         ensures onward { Onward self.old self.new }
     {
         if self.peek() == Some(byte) {
@@ -95,6 +99,7 @@ impl<'a> Cursor<'a> {
     pub fn expect(&mut self, byte: u8) -> Result<(), Bad>
         ensures found { OnOk result ((slice_index self.old.text.now self.old.at ≡ byte) × (self.new.at ≡ self.old.at + 1)) }
         ensures text { OnOk result (passed self.old self.new ≡ byte ∷ []) }
+        ensures back { (rest : List ℕ) → ahead self.old ≡ byte ∷ rest → (result ≡ Ok tt) × (ahead self.new ≡ rest) }
         ensures onward { Onward self.old self.new }
     {
         if self.take(byte) {
@@ -108,6 +113,7 @@ impl<'a> Cursor<'a> {
     where
         N::Err: Drop,
         ensures reads { IfOk result (λ n. N.FromStr.from_str_gives (passed self.old self.new) (Ok n)) }
+        ensures back { (bs : List ℕ) (n : N) → IsNumber bs → IsReadAs N.FromStr.from_str_gives bs n → ReadsBack bs n self.old result self.new }
         ensures onward { Onward self.old self.new }
     {
         let start = self.bad();
@@ -122,6 +128,7 @@ impl<'a> Cursor<'a> {
     pub fn number_in(&mut self, range: RangeInclusive<usize>) -> Result<usize, Bad>
         ensures within { IfOk result (λ n. (range_inclusive_start range ≤ n) × (n ≤ range_inclusive_end range)) }
         ensures reads { IfOk result (λ n. ReadsUnsigned (passed self.old self.new) n) }
+        ensures back { (n : ℕ) → IsInRange (range_inclusive_start range) (range_inclusive_end range) n → range_inclusive_exhausted range ≡ false → n < 2 ^ 64 → ReadsBack (decimal n) n self.old result self.new }
         ensures onward { Onward self.old self.new }
     {
         let start = self.bad();
@@ -174,7 +181,7 @@ impl<'a> Cursor<'a> {
 
     // Asks that the line ends here.
     pub fn end(&self) -> Result<(), Bad>
-        ensures { OnOk result (length self.now.text.now ≡ self.now.at) }
+        ensures { MatchResult result (λ _. length self.now.text.now ≡ self.now.at) (λ _. self.now.at < length self.now.text.now) }
     {
         if self.is_end() {
             return Ok(());

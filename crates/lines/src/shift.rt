@@ -37,7 +37,7 @@ impl<K: Kind> TryFrom<Shift<K>> for WindowShift<K> {
     }
 }
 
-// The function's type is another crate's, so `FromStr` cannot be given to it here.
+// No `FromStr`: it would have to stand in `lead_lag`, which knows nothing of lines.
 fn read_function(cursor: &mut Cursor<'_>) -> Result<WindowShiftKind, Bad>
     ensures { Onward cursor.old cursor.new }
 {

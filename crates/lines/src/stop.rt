@@ -19,6 +19,7 @@ impl fmt::Display for Bad {
 }
 
 // Why a line has no outcome.
+// `Unanswered` and `Refusal` of `sessions` have a `Memory` too: one generic error would save two `From`s, for a struct apiece of what each holds beside it.
 #[derive(Clone, Copy)]
 pub enum Stop {
     Unread(Bad),

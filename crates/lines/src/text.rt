@@ -1,5 +1,6 @@
-ghost use Rattle.std.specs.Prelude.{ℕ, List, IfOk, Some};
+ghost use Rattle.std.specs.Prelude.{ℕ, ⊤, List, IfOk, Some};
 ghost use Rattle.std.specs.Fmt.{WritesOnOk};
+ghost use Rattle.lines.specs.Back.{ReadsBack};
 ghost use Rattle.lines.specs.Cursors.{Onward, passed};
 
 use crate::cursor::Cursor;
@@ -7,15 +8,20 @@ use crate::stop::Bad;
 use column::kind::Kind;
 use std::fmt;
 
-// What a word of a line stands for; `Shown` has its `Display`, which these types cannot be given here: they are std's or another crate's.
+// What a word of a line stands for.
+// `Shown` has its `Display`, which would have to stand in std or in `column`, which know nothing of lines.
 pub trait Text: Copy {
     ghost text: { Self → List ℕ };
 
     // Holds of a text and the value that it is read as.
     ghost reads: { List ℕ → Self → Type 0 };
 
+    // Holds of the values of the type; a number in a clause may be any.
+    ghost fits: { Self → Type 0 } = { λ _. ⊤ };
+
     fn read(cursor: &mut Cursor<'_>) -> Result<Self, Bad>
         ensures reads { IfOk result (λ x. reads (passed cursor.old cursor.new) x) }
+        ensures back { (x : Self) → fits x → ReadsBack (text x) x cursor.old result cursor.new }
         ensures onward { Onward cursor.old cursor.new };
 
     fn write<W: fmt::Write>(&self, f: &mut fmt::Formatter<W>) -> fmt::Result

@@ -1,3 +1,4 @@
+ghost use Rattle.lines.specs.Fits.{InstantFits, PseudonymFits, CodeFits, OutcomeFits, PairFits, CellFits, SpanFits};
 ghost use Rattle.lines.specs.Reads.{ReadsInstant, ReadsPseudonym, ReadsCode, ReadsOutcome, ReadsPair, ReadsCell, ReadsMark, ReadsSpan};
 ghost use Rattle.lines.specs.Texts.{instant_text, pseudonym_text, code_text, outcome_text, pair_text, cell_text, mark_text, span_text};
 
@@ -13,6 +14,8 @@ impl Text for Instant {
     ghost text = { instant_text };
 
     ghost reads = { ReadsInstant };
+
+    ghost fits = { InstantFits };
 
     fn read(cursor: &mut Cursor<'_>) -> Result<Instant, Bad> {
         Ok(Instant(cursor.number::<i64>()?))
@@ -34,6 +37,8 @@ impl Text for Pseudonym {
     ghost text = { pseudonym_text };
 
     ghost reads = { ReadsPseudonym };
+
+    ghost fits = { PseudonymFits };
 
     fn read(cursor: &mut Cursor<'_>) -> Result<Pseudonym, Bad> {
         let high = cursor.number::<u64>()?;
@@ -59,6 +64,8 @@ impl Text for CollegeCode {
 
     ghost reads = { ReadsCode };
 
+    ghost fits = { CodeFits };
+
     fn read(cursor: &mut Cursor<'_>) -> Result<CollegeCode, Bad> {
         Ok(CollegeCode(cursor.number::<u64>()?))
     }
@@ -79,6 +86,8 @@ impl Text for LoginOutcome {
     ghost text = { outcome_text };
 
     ghost reads = { ReadsOutcome };
+
+    ghost fits = { OutcomeFits };
 
     fn read(cursor: &mut Cursor<'_>) -> Result<LoginOutcome, Bad> {
         if cursor.take(b'g') {
@@ -112,6 +121,8 @@ impl<A: Text, B: Text> Text for Pair<A, B> {
 
     ghost reads = { ReadsPair A.Text.reads B.Text.reads };
 
+    ghost fits = { PairFits A.Text.fits B.Text.fits };
+
     fn read(cursor: &mut Cursor<'_>) -> Result<Pair<A, B>, Bad> {
         cursor.expect(b'<')?;
         let first = A::read(cursor)?;
@@ -139,6 +150,8 @@ impl<K: Text> Text for Option<K> {
     ghost text = { cell_text K.Text.text };
 
     ghost reads = { ReadsCell K.Text.reads };
+
+    ghost fits = { CellFits K.Text.fits K.Text.text };
 
     fn read(cursor: &mut Cursor<'_>) -> Result<Option<K>, Bad> {
         if cursor.take(b'_') {
@@ -179,6 +192,8 @@ impl Text for (usize, usize) {
     ghost text = { span_text };
 
     ghost reads = { ReadsSpan };
+
+    ghost fits = { SpanFits };
 
     fn read(cursor: &mut Cursor<'_>) -> Result<(usize, usize), Bad> {
         let start = cursor.number::<usize>()?;

@@ -2,17 +2,14 @@ use Rattle.std.proofs.Common.{◌≡◌, ◌∙◌, inr, rules}
 use Rattle.std.proofs.lemmas.List.{take_at}
 use Rattle.std.proofs.lemmas.Result.{IfOk-weaker}
 use Rattle.drive.proofs.Tells.{answers_told, refusal_told}
-use Rattle.partition.specs.Table.{input, row_count}
 use Rattle.drive.proofs.whole.call.Goals as goal
-use Rattle.drive.proofs.whole.call.Goals.{then-is_ok, else-is_ok}
 
 pub returns-in-Ok : goal.returns-in-Ok
 returns-in-Ok g c =
-    let counted : c.if-is_ok.answers ≡ row_count (input c.new-rows.result) = elim c.if-is_ok.branch [ then-is_ok w ↦ search rules | else-is_ok w ↦ search rules ] in
     let filled = c.evaluate_cells-made.ensures.filled (search rules) in
-    let values : c.as_slice-5.result.now ≡ c.evaluate_cells-made.new.values = c.as_slice-5.ensures.value ∙ take_at _ _ _ (filled.values_long ∙ c.as_mut_slice.ensures.len) in
-    let marks : c.as_slice-6.result.now ≡ c.evaluate_cells-made.new.marks = c.as_slice-6.ensures.value ∙ take_at _ _ _ (filled.marks_long ∙ c.as_mut_slice-2.ensures.len) in
-    IfOk-weaker c.show.result _ _ (λ s e. inr (e ∙ answers_told _ g.K.Text.text c.args.shift.now c.args.handed.now _ _ _ _ (search rules) (search rules) c.evaluate_cells-made.ensures.call (search rules) filled _ _ _ counted values marks)) c.show.ensures
+    let values : c.as_column.result.values.now ≡ c.evaluate_cells-made.new.values = c.as_column.ensures.values ∙ take_at _ _ _ (filled.values_long ∙ c.as_mut_slice.ensures.len) in
+    let marks : c.as_column.result.marks.now ≡ c.evaluate_cells-made.new.marks = c.as_column.ensures.marks ∙ take_at _ _ _ (filled.marks_long ∙ c.as_mut_slice-2.ensures.len) in
+    IfOk-weaker c.show.result _ _ (λ s e. inr (e ∙ answers_told _ g.K.Text.text c.args.shift.now c.args.handed.now _ _ _ _ (search rules) (search rules) c.evaluate_cells-made.ensures.call (search rules) filled _ _ _ (search rules) values marks)) c.show.ensures
 
 pub returns : goal.returns
 returns g c =

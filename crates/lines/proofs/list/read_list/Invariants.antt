@@ -1,9 +1,15 @@
-use Rattle.std.proofs.Common.{◌-◌, length}
-use Rattle.lines.specs.Cursors.{Onward}
+use Rattle.std.proofs.Common.{◌≡◌, ℕ, ◌-◌, List, ◌∷◌, ◌++◌, codes, length, vec_items}
+use Rattle.lines.specs.Cursors.{Onward, ahead}
+use Rattle.lines.specs.Fits.{ListFits}
+use Rattle.lines.specs.Texts.{joined}
+use Rattle.lines.proofs.Lists.{Left}
 use Rattle.lines.proofs.list.read_list.Given as goal
 
+-- where one item or more are shown, some are read and the others are left
 abbrev pub invariant-loop-items : goal.invariant-loop-items
-invariant-loop-items g l = Onward l.initial.cursor l.cursor
+invariant-loop-items g l =
+    Onward l.initial.cursor l.cursor
+    × ((y : _) (ys : List _) (rest : List ℕ) → ListFits g.T.Text.fits g.T.Text.text (y ∷ ys) → ahead l.initial.cursor ≡ joined g.T.Text.text (y ∷ ys) ++ (codes "]" ++ rest) → Left g.T.Text.fits g.T.Text.text (y ∷ ys) (vec_items l.items) l.cursor rest)
 
 abbrev pub decreases-loop-items : goal.decreases-loop-items
 decreases-loop-items g l = length l.cursor.text.now - l.cursor.at
