@@ -38,6 +38,6 @@ fn cells_of_a_column(rt: HostRuntime) -> Result<(), Fail> {
         marks: &[true, false],
     };
     let cells = column.to_cells(rt.alloc())?;
-    assert_eq!(rt; cells.as_slice(), &[Some(Instant(1)), None]);
+    assert_eq!(rt; cells.as_slice(), [Some(Instant(1)), None].as_slice());
     Ok(())
 }

@@ -1,4 +1,4 @@
-use column::column::Window;
+use column::column::{ROW_LIMIT, Window};
 use column::fault::Fault;
 use column::kind::Instant;
 use evaluator::utils::Argument;
@@ -68,9 +68,21 @@ fn closed(rt: HostRuntime) -> Result<(), Fail> {
         return Err(Fail::new("a total below the next row"));
     };
     assert_eq!(rt; fault, Fault::BadTotal(1));
-    let Ok(mut run) = run.close(2) else {
+    let Err((fault, mut run)) = run.close(ROW_LIMIT + 1) else {
+        return Err(Fail::new("a total above the row limit"));
+    };
+    assert_eq!(rt; fault, Fault::BadTotal(1));
+    let uneven = Window::new(0, &VALUES[0..3], &MARKS[0..2]);
+    assert_eq!(rt; run.request(&uneven, None), Err(Fault::Lengths(2)));
+    let far = Window::new(ROW_LIMIT, &VALUES[0..1], &MARKS[0..1]);
+    assert_eq!(rt; run.request(&far, None), Err(Fault::RowLimit(ROW_LIMIT)));
+    let Ok(run) = run.close(2) else {
         return Err(Fail::new("a total of two"));
     };
+    let Err((fault, mut run)) = run.finish() else {
+        return Err(Fail::new("a row is unanswered"));
+    };
+    assert_eq!(rt; fault, Fault::Unanswered(1));
     assert_eq!(rt; run.request(&three, None), Err(Fault::PastTotal(2)));
     assert_eq!(rt; run.request(&one, None), Err(Fault::TooEarly(1)));
     let two = Window::new(0, &VALUES[0..2], &MARKS[0..2]);

@@ -3,7 +3,7 @@
 // stands for the queue of distances between present rows.
 #![tactic(auto)]
 
-ghost use Rattle.std.specs.Prelude.{◌≡◌, false, FitsSigned};
+ghost use Rattle.std.specs.Prelude.{◌≡◌, true, false, FitsSigned};
 ghost use Rattle.std.specs.Int.{w64};
 ghost use Rattle.lead_lag.specs.Cases.{Cases};
 ghost use Rattle.lead_lag.specs.Offset.{way_of};
@@ -159,7 +159,8 @@ impl<K: Kind> MirrorEvaluator for WindowShift<K> {
 
 // The worked cases hold of the definitions.
 pub fn cases_hold() -> bool
-    ensures { Cases }
+    ensures cases { Cases }
+    ensures told { result ≡ true }
 {
     true
 }
