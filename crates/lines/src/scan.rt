@@ -81,6 +81,7 @@ impl<'a> Cursor<'a> {
     }
 
     // Passes over a byte, where it is the next.
+    #[tactic(auto, using(crate::proofs::Numbers::next_byte))]
     pub fn take(&mut self, byte: u8) -> bool
         ensures step { self.new.at ≡ (if result then self.old.at + 1 else self.old.at) }
         ensures found { T result → slice_index self.old.text.now self.old.at ≡ byte }
