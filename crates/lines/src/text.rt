@@ -9,14 +9,14 @@ use column::kind::Kind;
 use std::fmt;
 
 // What a word of a line stands for.
-// `Shown` has its `Display`, which would have to stand in std or in `column`, which know nothing of lines.
+// No `Display` on the types themselves: it would have to stand in std or in `column`, which know nothing of lines; `Shown` has it.
 pub trait Text: Copy {
     ghost text: { Self → List ℕ };
 
     // Holds of a text and the value that it is read as.
     ghost reads: { List ℕ → Self → Type 0 };
 
-    // Holds of the values of the type; a number in a clause may be any.
+    // Holds of the values that the type can have: in a clause a number has no bound.
     ghost fits: { Self → Type 0 } = { λ _. ⊤ };
 
     fn read(cursor: &mut Cursor<'_>) -> Result<Self, Bad>

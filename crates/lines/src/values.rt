@@ -9,7 +9,7 @@ use column::kind::{CollegeCode, Instant, LoginOutcome, Pair, Pseudonym};
 use std::fmt;
 
 // A decimal number.
-// No trait over the wrapped number for this and `CollegeCode`: an impl of it would have five items where these have four.
+// No trait over the wrapped number for this and `CollegeCode`: an impl of it would have more items than each of these.
 impl Text for Instant {
     ghost text = { instant_text };
 

@@ -149,7 +149,7 @@ impl<K: Kind> RowEvaluator for NthValue<K> {
         let next = turn.shown()?;
         let window = turn.window();
         let frame = turn.frame();
-        // rows that are known to be all settle every frame
+        // where the window's end is known as the total, every frame is settled
         if !turn.known() && frame.1 > turn.end() {
             return Err(Fault::TooEarly(next));
         }

@@ -9,7 +9,7 @@ use run::run::{Closed, Open, Run};
 use std::alloc::{AllocError, Global};
 
 // A call on an open run; apart from one on a closed run, since only here a close moves the run.
-// One function over the stage would need an arm for a close, which no outcome fits on an open run.
+// One function over the stage would need an arm for a close too, and on an open run no outcome is right there.
 fn act_open<E: RowEvaluator>(
     mut run: Open<E>,
     call: &Call<'_, E::Value>,
