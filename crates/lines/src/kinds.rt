@@ -1,4 +1,4 @@
-ghost use Rattle.std.specs.Prelude.{◌≡◌, ℕ, List, ◌++◌, IfOk, Ok};
+ghost use Rattle.std.specs.Prelude.{◌≡◌, ℕ, List, ◌++◌, ◌+◌, IfOk, IfErr, Ok};
 ghost use Rattle.std.specs.Str.{IsCharBoundary};
 ghost use Rattle.lines.specs.Back.{EndsField};
 ghost use Rattle.lines.specs.Cursors.{Onward, ahead, passed};
@@ -44,6 +44,7 @@ impl FromStr for KindName {
 pub fn read_kind(cursor: &mut Cursor<'_>) -> Result<KindName, Bad>
     ensures reads { IsCharBoundary cursor.old.text.now cursor.old.at → IfOk result (λ k. passed cursor.old cursor.new ≡ kind_text k) }
     ensures back { (k : KindName) (rest : List ℕ) → ahead cursor.old ≡ kind_text k ++ rest → EndsField rest → (result ≡ Ok k) × (ahead cursor.new ≡ rest) }
+    ensures place { IfErr result (λ bad. bad.column ≡ cursor.old.at + 1) }
     ensures onward { Onward cursor.old cursor.new }
 {
     let start = cursor.bad();

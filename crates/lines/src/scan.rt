@@ -1,7 +1,7 @@
 // The steps of a cursor: none goes backward.
 // `Onward` stands at each: it relates two moments of a cursor, which no invariant of one moment can.
 // `IsCharBoundary` is a premise and no ghost field: `take` and `run` go by bytes, so they may stop inside a character.
-ghost use Rattle.std.specs.Prelude.{◌≡◌, ◌≢◌, ℕ, List, [], ◌∷◌, ◌++◌, drop, ◌+◌, ◌-◌, ◌^◌, ◌<◌, ◌≤◌, T, false, true, length, IfOk, if◌then◌else◌, Ok, OnOk, MatchResult, decimal, nat_le, slice_get, slice_index, slice_range};
+ghost use Rattle.std.specs.Prelude.{◌≡◌, ◌≢◌, ℕ, List, [], ◌∷◌, ◌++◌, drop, ◌+◌, ◌-◌, ◌^◌, ◌<◌, ◌≤◌, T, false, true, length, IfOk, IfErr, if◌then◌else◌, Ok, OnOk, MatchResult, decimal, nat_le, slice_get, slice_index, slice_range};
 ghost use Rattle.std.specs.Int.{IsInRange};
 ghost use Rattle.std.specs.Str.{IsCharBoundary};
 ghost use Rattle.std.specs.Range.{range_inclusive_start, range_inclusive_end, range_inclusive_exhausted};
@@ -101,6 +101,7 @@ impl<'a> Cursor<'a> {
         ensures found { OnOk result ((slice_index self.old.text.now self.old.at ≡ byte) × (self.new.at ≡ self.old.at + 1)) }
         ensures text { OnOk result (passed self.old self.new ≡ byte ∷ []) }
         ensures back { (rest : List ℕ) → ahead self.old ≡ byte ∷ rest → (result ≡ Ok tt) × (ahead self.new ≡ rest) }
+        ensures place { IfErr result (λ bad. (bad.column ≡ self.old.at + 1) × (self.new.at ≡ self.old.at)) }
         ensures onward { Onward self.old self.new }
     {
         if self.take(byte) {
@@ -114,6 +115,7 @@ impl<'a> Cursor<'a> {
     where
         N::Err: Drop,
         ensures reads { IfOk result (λ n. N.FromStr.from_str_gives (passed self.old self.new) (Ok n)) }
+        ensures place { IfErr result (λ bad. (bad.column ≡ self.old.at + 1) × (self.new.at ≡ self.old.at)) }
         ensures back { (bs : List ℕ) (n : N) → IsNumber bs → IsReadAs N.FromStr.from_str_gives bs n → ReadsBack bs n self.old result self.new }
         ensures onward { Onward self.old self.new }
     {
@@ -127,6 +129,7 @@ impl<'a> Cursor<'a> {
 
     // A number that lies in a range.
     pub fn number_in(&mut self, range: RangeInclusive<usize>) -> Result<usize, Bad>
+        ensures place { IfErr result (λ bad. bad.column ≡ self.old.at + 1) }
         ensures within { IfOk result (λ n. (range_inclusive_start range ≤ n) × (n ≤ range_inclusive_end range)) }
         ensures reads { IfOk result (λ n. ReadsUnsigned (passed self.old self.new) n) }
         ensures back { (n : ℕ) → IsInRange (range_inclusive_start range) (range_inclusive_end range) n → range_inclusive_exhausted range ≡ false → n < 2 ^ 64 → ReadsBack (decimal n) n self.old result self.new }
@@ -182,7 +185,7 @@ impl<'a> Cursor<'a> {
 
     // Asks that the line ends here.
     pub fn end(&self) -> Result<(), Bad>
-        ensures { MatchResult result (λ _. length self.now.text.now ≡ self.now.at) (λ _. self.now.at < length self.now.text.now) }
+        ensures { MatchResult result (λ _. length self.now.text.now ≡ self.now.at) (λ bad. (self.now.at < length self.now.text.now) × (bad.column ≡ self.now.at + 1)) }
     {
         if self.is_end() {
             return Ok(());
