@@ -1,5 +1,5 @@
 -- What is shown is read back.
-use Rattle.std.specs.Prelude.{◌≡◌, ℕ, ◌<◌, cond, List, ◌++◌, length, drop, Result, Ok, slice_index}
+use Rattle.std.specs.Prelude.{◌≡◌, ◌≢◌, ℕ, ◌<◌, cond, List, ◌++◌, length, drop, Result, Ok, slice_index}
 use Rattle.std.specs.Int.{IsInRange}
 use Rattle.std.specs.Str.Parse.{IsNumeral, starts_with_minus}
 use Rattle.lines.specs.Cursors.{ahead}
@@ -8,6 +8,14 @@ use Rattle.lines.specs.declared.cursor.Cursor.{Cursor}
 -- what stands behind a value does not go on with a digit
 abbrev pub Ends : List ℕ → Type 0
 Ends rest = ¬ (IsInRange 48 57 (slice_index rest 0))
+
+-- a text that is not empty, and does not begin as a list ends
+abbrev pub Begins : List ℕ → Type 0
+Begins bs = (0 < length bs) × (slice_index bs 0 ≢ 93)
+
+-- a text that does not begin as that of NULL does
+abbrev pub IsPresent : List ℕ → Type 0
+IsPresent bs = slice_index bs 0 ≢ 95
 
 -- behind a field stands nothing, or a blank
 abbrev pub EndsField : List ℕ → Type 0

@@ -12,7 +12,7 @@ use std::fmt;
 
 // `[x,y,..]`.
 pub fn read_list<T: Text>(heap: Global, cursor: &mut Cursor<'_>) -> Result<Vec<T>, Stop>
-    ensures back { (xs : List T) (rest : List ℕ) → ListFits T.Text.fits T.Text.text xs → ahead cursor.old ≡ list_text T.Text.text xs ++ rest → MatchResult result (λ v. (v.items ≡ xs) × (ahead cursor.new ≡ rest)) (λ s. s ≡ Memory) }
+    ensures back { (xs : List T) (rest : List ℕ) → ListFits T.Text.fits xs → ahead cursor.old ≡ list_text T.Show.text xs ++ rest → MatchResult result (λ v. (v.items ≡ xs) × (ahead cursor.new ≡ rest)) (λ s. s ≡ Memory) }
     ensures onward { Onward cursor.old cursor.new }
 {
     let mut items = Vec::new(heap);
