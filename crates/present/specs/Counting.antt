@@ -2,6 +2,7 @@
 use Rattle.std.specs.Prelude.{◌≡◌, ℕ, ◌+◌, ◌-◌, min, max, cond, List, [], length, is_some, Some, None, Option, nat_lt}
 use Rattle.std.specs.Option.{unwrap_or}
 use Rattle.std.specs.List.{slice_get}
+use Rattle.column.specs.Windows.{greatest_row}
 use Rattle.present.specs.declared.held.Held.{Held}
 use Rattle.present.specs.declared.held.Counted.{Counted}
 use Rattle.present.specs.Present.{at, before, ahead}
@@ -54,10 +55,6 @@ counted_row m h cell i n = record {
   counted = cond (is_some (cell i)) (Some (counted m h.counted cell i n)) h.counted;
 }
 
--- the greatest number that a row can have
-abbrev pub last_row : ℕ
-last_row = 18446744073709551615
-
 -- the row after row i, as far as there is a number for it
 abbrev pub row_after : ℕ → ℕ
-row_after i = min (i + 1) last_row
+row_after i = min (i + 1) greatest_row
