@@ -1,5 +1,5 @@
 -- How the texts of values begin; the laws of `Text` and `Value` stand in the source, which may name specs/ alone.
-use Rattle.std.proofs.Common.{◌≡◌, ◌≢◌, ℕ, zero, suc, ◌<◌, ◌≤◌, ◌^◌, ◌==◌, T, true, false, cond, List, [], ◌∷◌, ◌++◌, codes, decimal, length, get_or, slice_index, Option, Some, None, ℤ, pos, negsuc, refl, sym, subst, ap, ◌∙◌, arith, FitsSigned, w64}
+use Rattle.std.proofs.Common.{ℕ, ◌<◌, ◌≤◌, ◌^◌, true, false, List, ◌++◌, codes, decimal, length, get_or, Option, Some, None, ℤ, pos, negsuc, arith, FitsSigned, w64}
 use Rattle.std.specs.Fmt.{signed_decimal}
 use Rattle.std.specs.Int.{IsInRange}
 use Rattle.std.proofs.lemmas.Fmt.{decimal_is_IsNumeral, decimal_nonempty}

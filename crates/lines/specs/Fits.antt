@@ -1,5 +1,5 @@
 -- The values of a type: their numbers are in its range.
-use Rattle.std.specs.Prelude.{◌≢◌, ℕ, ◌<◌, ◌^◌, ⊤, List, [], ◌∷◌, length, Option, Some, None, slice_index, FitsSigned}
+use Rattle.std.specs.Prelude.{ℕ, ◌<◌, ◌^◌, ⊤, List, [], ◌∷◌, Option, Some, None, FitsSigned}
 use Rattle.std.specs.Int.{w64}
 use Rattle.column.specs.declared.kind.Instant.{Instant}
 use Rattle.column.specs.declared.kind.Pseudonym.{Pseudonym}

@@ -6,7 +6,7 @@ ghost use Rattle.lines.specs.Texts.{list_text};
 
 use crate::cursor::Cursor;
 use crate::stop::Stop;
-use crate::text::{Shown, Text};
+use crate::text::{Show, Shown, Text};
 use std::alloc::Global;
 use std::fmt;
 
@@ -35,8 +35,8 @@ pub fn read_list<T: Text>(heap: Global, cursor: &mut Cursor<'_>) -> Result<Vec<T
 #[derive(Clone, Copy)]
 pub struct ShownList<'a, T>(pub &'a [T]);
 
-impl<T: Text> fmt::Display for ShownList<'_, T> {
-    ghost output = { λ x. Some (list_text T.Text.text x.0.now) };
+impl<T: Show> fmt::Display for ShownList<'_, T> {
+    ghost output = { λ x. Some (list_text T.Show.text x.0.now) };
 
     fn fmt<W: fmt::Write>(&self, f: &mut fmt::Formatter<W>) -> fmt::Result {
         f.write_str("[")?;
