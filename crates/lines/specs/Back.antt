@@ -21,6 +21,14 @@ IsPresent bs = slice_index bs 0 ≢ 95
 abbrev pub EndsField : List ℕ → Type 0
 EndsField rest = 0 < length rest → slice_index rest 0 ≡ 32
 
+-- small letters, one or more
+abbrev pub IsWord : List ℕ → Type 0
+IsWord bs = (0 < length bs) × ((k : ℕ) → k < length bs → IsInRange 97 122 (slice_index bs k))
+
+-- what stands behind a word does not go on with a small letter
+abbrev pub EndsWord : List ℕ → Type 0
+EndsWord rest = ¬ (IsInRange 97 122 (slice_index rest 0))
+
 -- digits, which a minus sign may precede
 abbrev pub IsNumber : List ℕ → Type 0
 IsNumber bs = IsNumeral 10 (drop (cond (starts_with_minus bs) 1 0) bs)
