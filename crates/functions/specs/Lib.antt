@@ -1,2 +1,3 @@
 pub mod Making
 pub mod Names
+pub mod Words

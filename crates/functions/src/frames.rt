@@ -1,6 +1,9 @@
-ghost use Rattle.std.specs.Prelude.{◌≡◌};
+ghost use Rattle.std.specs.Prelude.{◌≡◌, ℕ, List, ◌++◌, Ok};
 ghost use Rattle.functions.specs.Making.{frames_making};
-ghost use Rattle.lines.specs.Cursors.{Onward};
+ghost use Rattle.functions.specs.Words.{ArgumentFits, frames_text, ignoring_text};
+ghost use Rattle.functions.specs.declared.frames.FrameRow.TheVariants.{Nth};
+ghost use Rattle.lines.specs.Back.{Ends};
+ghost use Rattle.lines.specs.Cursors.{Onward, ahead};
 
 use crate::argument::read_argument;
 use column::fault::Fault;
@@ -40,8 +43,9 @@ impl<K: Kind> TryFrom<Frames> for NthValue<K> {
     }
 }
 
-// What stands behind the name: `:IGN`, for NTH behind `:ARG`.
+// What stands behind the name: `:IGN`.
 pub(crate) fn read_ignoring(row: FrameRow, cursor: &mut Cursor<'_>) -> Result<Frames, Bad>
+    ensures back { (f : Frames) (rest : List ℕ) → f.row ≡ row → ahead cursor.old ≡ ignoring_text f ++ rest → Ends rest → (result ≡ Ok f) × (ahead cursor.new ≡ rest) }
     ensures onward { Onward cursor.old cursor.new }
 {
     cursor.expect(b':')?;
@@ -49,7 +53,9 @@ pub(crate) fn read_ignoring(row: FrameRow, cursor: &mut Cursor<'_>) -> Result<Fr
     Ok(Frames { row, ignore_nulls })
 }
 
+// `:ARG:IGN`.
 pub(crate) fn read_nth(cursor: &mut Cursor<'_>) -> Result<Frames, Bad>
+    ensures back { (f : Frames) (n : Argument) (rest : List ℕ) → f.row ≡ Nth n → ArgumentFits n → ahead cursor.old ≡ frames_text f.row f ++ rest → Ends rest → (result ≡ Ok f) × (ahead cursor.new ≡ rest) }
     ensures onward { Onward cursor.old cursor.new }
 {
     cursor.expect(b':')?;

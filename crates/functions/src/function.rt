@@ -1,5 +1,7 @@
-ghost use Rattle.std.specs.Prelude.{◌≡◌};
-ghost use Rattle.lines.specs.Cursors.{Onward};
+ghost use Rattle.std.specs.Prelude.{◌≡◌, ℕ, List, ◌++◌, Ok};
+ghost use Rattle.functions.specs.Words.{FunctionFits, arguments_text, function_text, name_of};
+ghost use Rattle.lines.specs.Back.{EndsField};
+ghost use Rattle.lines.specs.Cursors.{Onward, ahead};
 
 use crate::frames::{FrameRow, Frames, read_ignoring, read_nth};
 use crate::name::Name;
@@ -21,12 +23,11 @@ pub enum Function<K> {
     CumeDist,
 }
 
-// `lag:ARG:REV:IGN:DEFAULT`, `lead:..`, `first:IGN`, `last:IGN`, `nth:ARG:IGN`, or a word alone.
-pub fn read_function<K: Value>(cursor: &mut Cursor<'_>) -> Result<Function<K>, Bad>
+// The arguments that stand behind a name.
+fn read_arguments<K: Value>(name: Name, cursor: &mut Cursor<'_>) -> Result<Function<K>, Bad>
+    ensures back { (f : Function K) (rest : List ℕ) → name_of f ≡ name → FunctionFits K.Text.fits f → ahead cursor.old ≡ arguments_text K.Show.text f ++ rest → EndsField rest → (result ≡ Ok f) × (ahead cursor.new ≡ rest) }
     ensures onward { Onward cursor.old cursor.new }
 {
-    let start = cursor.bad();
-    let name = cursor.word().parse::<Name>().map_err(|_| start)?;
     match name {
         Name::Lag => Ok(Function::Shift(read_shift(WindowShiftKind::Lag, cursor)?)),
         Name::Lead => Ok(Function::Shift(read_shift(WindowShiftKind::Lead, cursor)?)),
@@ -39,4 +40,14 @@ pub fn read_function<K: Value>(cursor: &mut Cursor<'_>) -> Result<Function<K>, B
         Name::PercentRank => Ok(Function::PercentRank),
         Name::CumeDist => Ok(Function::CumeDist),
     }
+}
+
+// `lag:ARG:REV:IGN:DEFAULT`, `lead:..`, `first:IGN`, `last:IGN`, `nth:ARG:IGN`, or a word alone.
+pub fn read_function<K: Value>(cursor: &mut Cursor<'_>) -> Result<Function<K>, Bad>
+    ensures back { (f : Function K) (rest : List ℕ) → FunctionFits K.Text.fits f → ahead cursor.old ≡ function_text K.Show.text f ++ rest → EndsField rest → (result ≡ Ok f) × (ahead cursor.new ≡ rest) }
+    ensures onward { Onward cursor.old cursor.new }
+{
+    let start = cursor.bad();
+    let name = cursor.word().parse::<Name>().map_err(|_| start)?;
+    read_arguments(name, cursor)
 }

@@ -1,6 +1,8 @@
-ghost use Rattle.std.specs.Prelude.{◌≡◌};
+ghost use Rattle.std.specs.Prelude.{◌≡◌, ℕ, List, ◌++◌, Ok};
+ghost use Rattle.functions.specs.Words.{ShiftFits, shift_text};
 ghost use Rattle.lead_lag.specs.Shift.{making};
-ghost use Rattle.lines.specs.Cursors.{Onward};
+ghost use Rattle.lines.specs.Back.{Ends};
+ghost use Rattle.lines.specs.Cursors.{Onward, ahead};
 
 use crate::argument::read_argument;
 use column::fault::Fault;
@@ -43,6 +45,7 @@ pub(crate) fn read_shift<K: Value>(
     kind: WindowShiftKind,
     cursor: &mut Cursor<'_>,
 ) -> Result<Shift<K>, Bad>
+    ensures back { (s : Shift K) (rest : List ℕ) → s.kind ≡ kind → ShiftFits K.Text.fits s → ahead cursor.old ≡ shift_text K.Show.text s ++ rest → Ends rest → (result ≡ Ok s) × (ahead cursor.new ≡ rest) }
     ensures onward { Onward cursor.old cursor.new }
 {
     cursor.expect(b':')?;

@@ -1,8 +1,5 @@
 -- A kind's name that stands as a field is found.
-use Rattle.std.proofs.Common.{◌≡◌, ◌≢◌, inl, inr, ℕ, zero, suc, ◌+◌, ◌-◌, ◌<◌, ◌≤◌, ◌==◌, ◌&&◌, not, T, Bool, true, cond, List, [], ◌∷◌, ◌++◌, length, drop, get_or, slice_index, Result, Ok, Err, sym, refl, ap, rules, ◌∙◌, subst, arith}
-use Rattle.std.proofs.lemmas.Bool.{cases_lt}
-use Rattle.std.proofs.lemmas.List.{get_or_append_left}
-use Rattle.std.proofs.lemmas.Str.{IsCharBoundary-before_ascii}
+use Rattle.std.proofs.Common.{◌≡◌, ◌≢◌, ℕ, zero, suc, ◌+◌, ◌<◌, ◌≤◌, ◌==◌, ◌&&◌, not, T, Bool, true, cond, List, [], ◌∷◌, ◌++◌, length, drop, get_or, slice_index, Result, Ok, Err, sym, refl, ap, rules, ◌∙◌, arith}
 use Rattle.std.specs.Str.{IsCharBoundary}
 use Rattle.lines.specs.Back.{EndsField}
 use Rattle.lines.specs.Kinds.{NamesKind, kind_text}

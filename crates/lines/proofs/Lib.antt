@@ -2,4 +2,5 @@ mod Fields
 pub mod Lists
 mod Numbers
 pub mod Passed
-mod Shown
+pub mod Shown
+pub mod Words

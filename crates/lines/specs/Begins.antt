@@ -20,13 +20,13 @@ decimal_first : (n : ℕ) → n < 2 ^ 64 → IsInRange 48 57 (get_or (decimal n)
 decimal_first n small = digit_at (decimal n) 0 (decimal_is_IsNumeral n small).0.1 (decimal_nonempty n small)
 
 -- what a number begins with
-abbrev NumberBegins : List ℕ → Type 0
+abbrev pub NumberBegins : List ℕ → Type 0
 NumberBegins bs = (0 < length bs) × (45 ≤ get_or bs 0 0) × (get_or bs 0 0 ≤ 57)
 
-decimal_begins : (n : ℕ) → n < 2 ^ 64 → NumberBegins (decimal n)
+pub decimal_begins : (n : ℕ) → n < 2 ^ 64 → NumberBegins (decimal n)
 decimal_begins n small = (decimal_nonempty n small, omega (arith, decimal_first n small), omega (arith, decimal_first n small))
 
-signed_begins : (z : ℤ) → FitsSigned w64 z → NumberBegins (signed_decimal z)
+pub signed_begins : (z : ℤ) → FitsSigned w64 z → NumberBegins (signed_decimal z)
 signed_begins (pos n) fits = decimal_begins n (omega (arith, fits.sfits))
 signed_begins (negsuc n) fits = (omega arith, omega arith, omega arith)
 
