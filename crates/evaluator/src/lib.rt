@@ -3,4 +3,5 @@
 pub mod cells;
 pub mod evaluator;
 pub mod mirror;
+pub mod numbers;
 pub mod utils;

@@ -2,6 +2,7 @@
 
 use arrow::array::{ArrayRef, UInt64Array};
 use arrow::buffer::NullBuffer;
+use capi::{CollegeCode, Span};
 use harness::random::Random;
 use std::fmt;
 use std::sync::Arc;
@@ -57,17 +58,9 @@ impl Frames {
     }
 }
 
-/// A frame or a peer group, as it stands in C.
-#[repr(C)]
-#[derive(Debug, Clone, Copy)]
-pub struct Span {
-    pub start: usize,
-    pub end: usize,
-}
-
 /// A column, once as lists and once as the crate's array.
 pub struct Column {
-    pub values: Vec<u64>,
+    pub codes: Vec<CollegeCode>,
     pub marks: Vec<u8>,
     pub array: ArrayRef,
 }
@@ -83,7 +76,7 @@ impl Column {
         let bitmap = Some(bitmap).filter(|_| nulls != Nulls::None);
         let array = Arc::new(UInt64Array::new(values.clone(), bitmap));
         Column {
-            values,
+            codes: values.into_iter().map(CollegeCode).collect(),
             marks,
             array,
         }
@@ -94,14 +87,14 @@ impl Column {
         let values: Vec<u64> = (0..rows).map(|row| (row / group) as u64).collect();
         let array = Arc::new(UInt64Array::new(values.clone(), None));
         Column {
+            codes: values.into_iter().map(CollegeCode).collect(),
             marks: vec![1; rows],
-            values,
             array,
         }
     }
 
     pub fn len(&self) -> usize {
-        self.values.len()
+        self.codes.len()
     }
 }
 

@@ -10,9 +10,10 @@ mod port;
 mod reference;
 mod report;
 
+use capi::Span;
 use case::{Case, Manner, Table};
 use clock::{Work, alternate};
-use input::{Column, Nulls, Span, groups};
+use input::{Column, Nulls, groups};
 use port::Port;
 use reference::Reference;
 use report::{Cell, Report};
@@ -22,7 +23,7 @@ use std::time::Duration;
 const SIZES: [usize; 3] = [1_000, 1_000_000, 16_777_216];
 
 /// The crate is not asked where it would take more steps than this.
-const MOST_STEPS: f64 = 4e9;
+const MOST_STEPS: f64 = 1e9;
 
 /// Up to so many rows the answers of both sides are compared first.
 const COMPARED: usize = 1_000_000;
@@ -89,7 +90,7 @@ impl Inputs {
 
 /// A copy of values and marks into lists made for it.
 fn copy(column: &Column) {
-    black_box((column.values.clone(), column.marks.clone()));
+    black_box((column.codes.clone(), column.marks.clone()));
 }
 
 /// In how many rows the two sides differ.

@@ -1,9 +1,10 @@
 //! The crate's side: its own evaluators over its own arrays.
 
 use crate::case::{Case, Manner, argument};
-use crate::input::{Column, Span};
+use crate::input::Column;
 use arrow::array::{ArrayRef, Float64Array, UInt64Array};
 use arrow::datatypes::DataType;
+use capi::Span;
 use datafusion_common::{Result, ScalarValue};
 use datafusion_expr::PartitionEvaluator;
 use harness::crate_side::{literal, make, udwf};
