@@ -104,25 +104,47 @@ impl Case {
         }
     }
 
-    /// About how many steps the crate takes over so many rows.
-    pub fn steps(&self, rows: usize) -> f64 {
-        let n = rows as f64;
-        let ignoring = self.function.ignores_nulls() && self.nulls() != Nulls::None;
-        let present = match self.nulls() {
+    fn present(&self) -> f64 {
+        match self.nulls() {
             Nulls::None => 1.0,
             Nulls::Quarter => 0.75,
             Nulls::Most => 0.001,
-        };
+        }
+    }
+
+    /// About how many steps the crate takes over so many rows: the words and the present rows of a frame, the
+    /// distances between present rows that are added up.
+    pub fn crate_steps(&self, rows: usize) -> f64 {
+        let n = rows as f64;
+        let ignoring = self.function.ignores_nulls() && self.nulls() != Nulls::None;
         let frame = match self.frames() {
             Some(Frames::Growing) => n / 2.0,
             Some(Frames::Last(length)) => length as f64,
             None => 0.0,
         };
         let at_row = match &self.function {
-            Function::Last { .. } if ignoring => frame / 64.0 + frame * present,
+            Function::Last { .. } if ignoring => frame / 64.0 + frame * self.present(),
+            Function::Nth { .. } if ignoring && argument(&self.function) < Some(0) => {
+                frame / 64.0 + frame * self.present()
+            }
             _ if self.frames().is_some() && ignoring => frame / 64.0,
             Function::Shift(shift) if shift.ignoring && self.manner == Manner::ByRow => {
                 argument(&self.function).map_or(0.0, |m| m as f64)
+            }
+            _ => 0.0,
+        };
+        n * (20.0 + at_row)
+    }
+
+    /// About how many steps this library takes: LEAD ignoring NULLs looks ahead anew at each row that is asked for.
+    pub fn port_steps(&self, rows: usize) -> f64 {
+        let n = rows as f64;
+        let at_row = match &self.function {
+            Function::Shift(shift)
+                if shift.lead && shift.ignoring && self.manner == Manner::ByRow =>
+            {
+                let ahead = argument(&self.function).map_or(0.0, |m| m as f64) / self.present();
+                ahead.min(n / 2.0)
             }
             _ => 0.0,
         };

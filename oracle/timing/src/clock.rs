@@ -34,6 +34,7 @@ pub type Work<'a> = Box<dyn FnMut() + 'a>;
 /// A sample lasts at least this long, by as many calls as that takes.
 const SAMPLE: Duration = Duration::from_micros(200);
 
+/// Rounds of samples; fewer where one takes very long.
 const FEWEST: usize = 3;
 
 const MOST: usize = 25;
@@ -60,7 +61,8 @@ pub fn alternate(works: &mut [Work<'_>], budget: Duration) -> Vec<f64> {
     let mut samples = vec![vec![]; works.len()];
     let start = Instant::now();
     for round in 0..MOST {
-        if round >= FEWEST && start.elapsed() > budget {
+        let spent = start.elapsed();
+        if round >= FEWEST && spent > budget || round > 0 && spent > 10 * budget {
             break;
         }
         for turn in 0..works.len() {

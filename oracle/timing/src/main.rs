@@ -22,8 +22,8 @@ use std::time::Duration;
 
 const SIZES: [usize; 3] = [1_000, 1_000_000, 16_777_216];
 
-/// The crate is not asked where it would take more steps than this.
-const MOST_STEPS: f64 = 1e9;
+/// A side is not asked where it would take more steps than this, of about a nanosecond.
+const MOST_STEPS: f64 = 2e9;
 
 /// Up to so many rows the answers of both sides are compared first.
 const COMPARED: usize = 1_000_000;
@@ -123,24 +123,27 @@ fn measure(case: &Case, inputs: &Inputs, budget: Duration) -> Cell {
     };
     let port = Port::new(case, column, &frames, &spans);
     let reference = Reference::new(case, column, &frames, &spans);
-    let is_slow = case.steps(rows) > MOST_STEPS;
-    let differ = match rows <= COMPARED && !is_slow {
+    let asks_port = case.port_steps(rows) <= MOST_STEPS;
+    let asks_crate = case.crate_steps(rows) <= MOST_STEPS;
+    let differ = match rows <= COMPARED && asks_port && asks_crate {
         true => differences(&port, &reference),
         false => 0,
     };
-    let mut works: Vec<Work<'_>> = vec![Box::new(|| port.run())];
-    if !is_slow {
+    let mut works: Vec<Work<'_>> = vec![];
+    if asks_port {
+        works.push(Box::new(|| port.run()));
+    }
+    if asks_crate {
         works.push(Box::new(|| reference.run()));
     }
-    let medians = alternate(&mut works, budget);
-    let port = medians[0] / rows as f64;
-    match medians.get(1) {
-        Some(reference) => Cell::Both {
-            port,
-            reference: reference / rows as f64,
-            differ,
-        },
-        None => Cell::Alone { port },
+    let mut medians = alternate(&mut works, budget)
+        .into_iter()
+        .map(|seconds| seconds / rows as f64);
+    let mut next = |asked: bool| if asked { medians.next() } else { None };
+    Cell::Timed {
+        port: next(asks_port),
+        reference: next(asks_crate),
+        differ,
     }
 }
 

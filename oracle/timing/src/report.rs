@@ -6,14 +6,12 @@ use harness::lines::Function;
 
 /// What was measured of a case at a size, in seconds a row.
 pub enum Cell {
+    /// There is no such case.
     Absent,
-    /// The crate would take too long.
-    Alone {
-        port: f64,
-    },
-    Both {
-        port: f64,
-        reference: f64,
+    /// A side that would take too long was not asked.
+    Timed {
+        port: Option<f64>,
+        reference: Option<f64>,
         /// How many answers differ.
         differ: usize,
     },
@@ -23,35 +21,41 @@ impl Cell {
     fn port(&self) -> Option<f64> {
         match self {
             Cell::Absent => None,
-            Cell::Alone { port } | Cell::Both { port, .. } => Some(*port),
+            Cell::Timed { port, .. } => *port,
         }
     }
 
     fn ratio(&self) -> Option<f64> {
         match self {
-            Cell::Both {
+            Cell::Absent => None,
+            Cell::Timed {
                 port, reference, ..
-            } => Some(port / reference),
-            _ => None,
+            } => Some((*port)? / (*reference)?),
         }
     }
 
-    /// The ratio, the nanoseconds a row of both, and how many plain copies that is.
+    /// The ratio, the nanoseconds a row of both, and how many plain copies this library's are.
     fn text(&self, copy: f64) -> String {
-        let ns = |seconds: f64| format!("{:.1}", seconds * 1e9);
-        match self {
-            Cell::Absent => String::new(),
-            Cell::Alone { port } => format!("– ({} / –), {:.1}", ns(*port), port / copy),
-            Cell::Both {
-                port, reference, ..
-            } => format!(
-                "**{:.2}** ({} / {}), {:.1}",
-                port / reference,
-                ns(*port),
-                ns(*reference),
-                port / copy
-            ),
-        }
+        let Cell::Timed {
+            port, reference, ..
+        } = self
+        else {
+            return String::new();
+        };
+        let none = "–".to_string();
+        let ns = |seconds: &Option<f64>| match seconds {
+            Some(seconds) => format!("{:.1}", seconds * 1e9),
+            None => none.clone(),
+        };
+        let ratio = self.ratio().map(|r| format!("**{r:.2}**"));
+        let copies = port.map(|port| format!("{:.1}", port / copy));
+        format!(
+            "{} ({} / {}), {}",
+            ratio.unwrap_or(none.clone()),
+            ns(port),
+            ns(reference),
+            copies.unwrap_or(none.clone())
+        )
     }
 }
 
@@ -208,7 +212,7 @@ impl Report {
         println!("\n### Rows in which the two sides' answers differ\n");
         let mut none = true;
         for (line, rows, cell) in self.each() {
-            if let Cell::Both { differ, .. } = cell
+            if let Cell::Timed { differ, .. } = cell
                 && *differ > 0
             {
                 println!("- {}: {}", line.name(rows), grouped(*differ));
