@@ -1,3 +1,4 @@
+pub mod Listed
 pub mod Cells
 pub mod Sameness
 pub mod Exits

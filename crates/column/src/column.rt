@@ -1,8 +1,9 @@
-ghost use Rattle.std.specs.Prelude.{◌≡◌, ◌+◌, ◌-◌, ◌^◌, min, false, map, length, None, slice_index_or, IfOk};
+ghost use Rattle.std.specs.Prelude.{◌≡◌, false, map, length, None, slice_index_or, IfOk};
 ghost use Rattle.std.specs.Bool.{then_some};
 ghost use Rattle.std.specs.List.{zip};
 ghost use Rattle.column.specs.Cells.{column_cells, same_cell, view};
 ghost use Rattle.column.specs.Refusal.{passes, column_refusal};
+ghost use Rattle.column.specs.Windows.{window_end};
 
 use crate::fault::Fault;
 use crate::kind::Kind;
@@ -39,7 +40,7 @@ impl<'a, K> Window<'a, K> {
 
     // The row after the last; the largest number where it lies above that.
     pub fn end(&self) -> usize
-        ensures { result ≡ min (self.now.begin + length self.now.rows.values.now) (2 ^ 64 - 1) }
+        ensures { result ≡ window_end self.now }
     {
         self.begin.saturating_add(self.rows.values.len())
     }

@@ -1,36 +1,74 @@
--- What a call on a whole partition tells, from what it left.
-use Rattle.std.proofs.Common.{◌≡◌, ℕ, min, Bool, false, List, take, Option, Some, None, Result, Ok, Err, sym, ap, ◌∙◌}
+-- What a call tells, from what it left.
+use Rattle.std.proofs.Common.{◌≡◌, inl, inr, ℕ, ◌+◌, ◌-◌, ◌<◌, Bool, List, ◌++◌, length, take, drop, slice_index_or, slice_set, Option, Some, None, Result, Ok, Err, refl, sym, ap, ◌∙◌, arith}
+use Rattle.std.proofs.Math.ListN.{get_or-eq_default}
+use Rattle.std.proofs.Math.Seq.{take-append_seam}
+use Rattle.std.proofs.lemmas.Bool.{cases_lt}
+use Rattle.std.proofs.lemmas.List.{get_or-drop, get_or-append-add}
 use Rattle.column.specs.declared.fault.Fault.{Fault}
-use Rattle.column.specs.Refusal.{passes}
-use Rattle.column.specs.Cells.{cells}
-use Rattle.column.specs.Slots.{CellSlots, Filled, put_cell, cell_count}
-use Rattle.column.proofs.Exits.{passed}
-use Rattle.partition.specs.Table.{Input, row_count, whole_refusal}
-use Rattle.partition.proofs.Accepted.{whole_says}
-use Rattle.evaluator.specs.Meaning.{WholeCall, partition}
-use Rattle.lead_lag.specs.declared.WindowShift.{WindowShift}
-use Rattle.lead_lag.specs.Shift.{shift_meaning}
-use Rattle.drive.specs.declared.whole.Handed.{Handed}
-use Rattle.drive.specs.Outcomes.{answers_text, refusal_text}
-use Rattle.drive.specs.Whole.{handed_input, handed_refusal, shift_answers, whole_text}
-use Rattle.drive.proofs.Cells.{filled_cells}
+use Rattle.column.specs.Slots.{listed}
+use Rattle.partition.specs.Table.{Input, whole_refusal}
+use Rattle.evaluator.specs.Meaning.{Meaning, WholeCall}
+use Rattle.column.specs.Refusal.{yields, passes, kept_or}
+use Rattle.drive.specs.Kept.{HoldsFrom}
+use Rattle.drive.specs.Outcomes.{answers_text, refusal_text, told_text}
+use Rattle.drive.specs.Whole.{row_answers, whole_text}
 
-failed : (r : Option Fault) (f : Fault) → Err f ≡ passes r → r ≡ Some f
-failed None f e = cc
-failed (Some g) f e = cc
+failed : {X : Type 0} (x : X) (refusal : Option Fault) (f : Fault) → Err f ≡ yields x refusal → refusal ≡ Some f
+failed x None f e = cc
+failed x (Some g) f e = cc
 
-module _ {V : Type 0} (same : V → V → Bool) (text : V → List ℕ) (shift : WindowShift V) (h : Handed V) (x : Input V) (s t : CellSlots V) (r : Result (Unit {0}) Fault) (is : x ≡ handed_input h) (slots : cell_count s ≡ min h.values h.marks) (c : WholeCall put_cell (whole_refusal same false false x (cell_count s)) ((shift_meaning shift).answer (partition false x)) (row_count x) s t r) where
-  known : whole_refusal same false false x (cell_count s) ≡ handed_refusal same h
-  known = ap (λ y. whole_refusal same false false y (cell_count s)) is ∙ ap (whole_refusal same false false (handed_input h)) slots
+passed : {X : Type 0} (x y : X) (refusal : Option Fault) → Ok y ≡ yields x refusal → refusal ≡ None
+passed x y None e = refl
+passed x y (Some g) e = cc
 
-  pub refusal_told : (f : Fault) → r ≡ Err f → refusal_text f ≡ whole_text text (handed_refusal same h) (shift_answers shift (handed_input h))
-  refusal_told f e = ap (λ y. whole_text text y (shift_answers shift (handed_input h))) (sym (failed (whole_refusal same false false x (cell_count s)) f (sym e ∙ c.outcome)) ∙ known)
+-- a refusal that was given is the one that there is
+pub refused : {X A : Type 0} (text : A → List ℕ) (x : X) (refusal : Option Fault) (r : Result X Fault) (f : Fault) (answers : List A) → r ≡ yields x refusal → r ≡ Err f → refusal_text f ≡ told_text text refusal answers
+refused text x refusal r f answers is e = ap (λ y. told_text text y answers) (sym (failed x refusal f (sym e ∙ is)))
 
-  pub answers_told : r ≡ Ok tt → Filled ((shift_meaning shift).answer (partition false x)) (row_count x) s t → (n : ℕ) (vs : List V) (ms : List Bool) → n ≡ row_count x → vs ≡ t.values → ms ≡ t.marks → answers_text text (take n (cells vs ms)) ≡ whole_text text (handed_refusal same h) (shift_answers shift (handed_input h))
-  answers_told e filled n vs ms en ev em =
-      let ok : whole_refusal same false false x (cell_count s) ≡ None = passed (whole_refusal same false false x (cell_count s)) tt (sym e ∙ c.outcome) in
-      ap (answers_text text) (
-      ap (λ m. take m (cells vs ms)) en ∙ ap (λ l. take (row_count x) (cells l ms)) ev ∙ ap (λ l. take (row_count x) (cells t.values l)) em
-      ∙ filled_cells ((shift_meaning shift).answer (partition false x)) (row_count x) s t (whole_says same false false x (cell_count s) ok).room filled
-      ∙ ap (shift_answers shift) is)
-      ∙ ap (λ y. whole_text text y (shift_answers shift (handed_input h))) (sym ok ∙ known)
+-- and where none was given there is none
+pub accepted : {X : Type 0} (x y : X) (refusal : Option Fault) (r : Result X Fault) → r ≡ yields x refusal → r ≡ Ok y → refusal ≡ None
+accepted x y refusal r is e = passed x y refusal (sym e ∙ is)
+
+pub answered : {A : Type 0} (text : A → List ℕ) (refusal : Option Fault) (found answers : List A) → refusal ≡ None → found ≡ answers → answers_text text found ≡ told_text text refusal answers
+answered text refusal found answers none same = ap (answers_text text) same ∙ ap (λ y. told_text text y answers) (sym none)
+
+pub all_hold : {A : Type 0} (p : A) (n : ℕ) (s : List A) → length s ≡ n → ((k : ℕ) → k < n → slice_index_or s k p ≡ p) → HoldsFrom p s 0
+all_hold p n s long each k h = elim (cases_lt k n) [
+  | inl low ↦ each k low
+  | inr far ↦ get_or-eq_default s p (omega (arith, long, far))
+]
+
+front_holds : {A : Type 0} (p : A) (n : ℕ) (front s : List A) → length front ≡ n → HoldsFrom p s 0 → HoldsFrom p (front ++ drop n s) n
+front_holds p n front s long holds k h =
+    let there : k ≡ length front + (k - n) = omega (arith, long, h) in
+    let back : n + (k - n) ≡ k = omega (arith, h) in
+    ap (λ i. slice_index_or (front ++ drop n s) i p) there
+    ∙ get_or-append-add front (drop n s) (k - n) p
+    ∙ get_or-drop n s (k - n) p
+    ∙ ap (λ i. slice_index_or s i p) back
+    ∙ holds k (omega arith)
+
+-- what a call on a list of the pattern leaves behind its answers
+pub kept_behind : {A : Type 0} (p : A) (refusal : Option Fault) (n count : ℕ) (front old new : List A) → length front ≡ n → new ≡ kept_or refusal old (front ++ drop n old) → (refusal ≡ None → count ≡ n) → HoldsFrom p old 0 → HoldsFrom p new count
+kept_behind p None n count front old new long is counted holds k h =
+    ap (λ l. slice_index_or l k p) is ∙ front_holds p n front old long holds k (omega (arith, counted refl, h))
+kept_behind p (Some f) n count front old new long is counted holds k h = ap (λ l. slice_index_or l k p) is ∙ holds k (omega arith)
+
+-- a list of numbers after a call: the answers are its front, and a refusal leaves it
+pub listed_or : {A : Type 0} (answers : ℕ → A) (n : ℕ) (refusal : Option Fault) (old new : List A) (r : Result (Unit {0}) Fault) → WholeCall (λ s i a. slice_set s i a) refusal answers n old new r → (r ≡ Ok tt → new ≡ listed answers n old) → new ≡ kept_or refusal old (listed answers n old)
+listed_or answers n None old new r c filled = filled c.outcome
+listed_or answers n (Some f) old new r c filled = c.slots
+
+pub front_is : {A : Type 0} (n : ℕ) (front behind : List A) → length front ≡ n → take n (front ++ behind) ≡ front
+front_is n front behind long = ap (λ k. take k (front ++ behind)) (sym long) ∙ take-append_seam front behind
+
+-- the two ways that a call on a whole partition ends, over the lists as the call sees them and as they are handed in
+module _ {V A : Type 0} (same : V → V → Bool) (text : A → List ℕ) (wants_frames wants_groups : Bool) (m : Meaning V A) (x h : Input V) (slots size : ℕ) (r : Result (Unit {0}) Fault) (is : x ≡ h) (long : slots ≡ size) (outcome : r ≡ passes (whole_refusal same wants_frames wants_groups x slots)) where
+  known : whole_refusal same wants_frames wants_groups x slots ≡ whole_refusal same wants_frames wants_groups h size
+  known = ap (λ y. whole_refusal same wants_frames wants_groups y slots) is ∙ ap (whole_refusal same wants_frames wants_groups h) long
+
+  pub whole_refused : (f : Fault) → r ≡ Err f → refusal_text f ≡ whole_text same text wants_frames wants_groups m h size
+  whole_refused f e = refused text tt (whole_refusal same wants_frames wants_groups h size) r f (row_answers m wants_frames h) (outcome ∙ ap passes known) e
+
+  pub whole_answered : (found : List A) → r ≡ Ok tt → found ≡ row_answers m wants_frames x → answers_text text found ≡ whole_text same text wants_frames wants_groups m h size
+  whole_answered found e answers = answered text (whole_refusal same wants_frames wants_groups h size) found (row_answers m wants_frames h) (accepted tt tt (whole_refusal same wants_frames wants_groups h size) r (outcome ∙ ap passes known) e) (answers ∙ ap (row_answers m wants_frames) is)

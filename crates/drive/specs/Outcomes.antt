@@ -5,7 +5,7 @@ use Rattle.column.specs.declared.fault.Fault.{Fault}
 use Rattle.column.specs.declared.fault.Fault.TheVariants.{Unanswered}
 use Rattle.replay.specs.declared.calls.Reply.TheVariants.{Answer, Done, Mark, NotTaken}
 use Rattle.replay.specs.History.{Outcome, Event, accepted, total_of}
-use Rattle.lines.specs.Texts.{cell_text, list_text}
+use Rattle.lines.specs.Texts.{list_text}
 
 -- a refusal by its number and place
 abbrev pub refused_text : ℕ → ℕ → List ℕ
@@ -16,16 +16,21 @@ abbrev pub refusal_text : Fault → List ℕ
 refusal_text f = refused_text (number f) (place f)
 
 -- what a call gives, or its refusal
-abbrev pub outcome_text : {V : Type 0} → (V → List ℕ) → Outcome (Option V) → List ℕ
-outcome_text value_text (Ok (Answer cell)) = codes "ok:" ++ cell_text value_text cell
-outcome_text value_text (Err f) = refusal_text f
-outcome_text value_text (Ok Done) = codes "ok"
-outcome_text value_text (Ok (Mark n)) = decimal n
-outcome_text value_text (Ok NotTaken) = codes "no:closed"
+abbrev pub outcome_text : {A : Type 0} → (A → List ℕ) → Outcome A → List ℕ
+outcome_text answer_text (Ok (Answer answer)) = codes "ok:" ++ answer_text answer
+outcome_text answer_text (Err f) = refusal_text f
+outcome_text answer_text (Ok Done) = codes "ok"
+outcome_text answer_text (Ok (Mark n)) = decimal n
+outcome_text answer_text (Ok NotTaken) = codes "no:closed"
 
--- the answers of a call on a whole partition
-abbrev pub answers_text : {V : Type 0} → (V → List ℕ) → List (Option V) → List ℕ
-answers_text value_text answers = codes "ok:" ++ list_text (cell_text value_text) answers
+-- a list of answers, or of peer groups
+abbrev pub answers_text : {A : Type 0} → (A → List ℕ) → List A → List ℕ
+answers_text answer_text answers = codes "ok:" ++ list_text answer_text answers
+
+-- the refusal, or else the answers
+abbrev pub told_text : {A : Type 0} → (A → List ℕ) → Option Fault → List A → List ℕ
+told_text answer_text (Some f) answers = refusal_text f
+told_text answer_text None answers = answers_text answer_text answers
 
 -- of an attempt to finish: the rows, a refusal, or that the run is not closed
 abbrev pub ending_text : Option (Result ℕ Fault) → List ℕ

@@ -2,6 +2,8 @@
 ghost use Rattle.std.specs.Prelude.{◌≡◌, ℕ, List, IfOk, IfErr, string_bytes};
 ghost use Rattle.drive.specs.Outcomes.{IsComment, TellsRefusal, line_text, refusal_text};
 
+use crate::answer::Answer;
+use crate::groups::answer_groups;
 use crate::ops::read_steps;
 use crate::outcome::Refusal;
 use crate::runs::answer_run;
@@ -9,21 +11,48 @@ use crate::whole::answer_whole;
 use column::column::ROW_LIMIT;
 use column::fault::Fault;
 use column::kind::{CollegeCode, Instant, LoginOutcome, Pair, Pseudonym};
+use evaluator::evaluator::Evaluator;
 use evaluator::mirror::MirrorEvaluator;
+use functions::function::{Function, read_function};
 use lead_lag::WindowShift;
 use lines::cursor::Cursor;
 use lines::kinds::{KindName, read_kind};
-use lines::shift::read_shift;
 use lines::stop::{Bad, Stop};
 use lines::text::{Text, Value};
+use nth_value::NthValue;
+use rank::cume_dist::CumeDist;
+use rank::rank::{PercentRank, Rank};
+use rank::row_number::RowNumber;
+use run::rows::RowEvaluator;
 use std::alloc::Global;
 
-// What a line asks for: a whole partition, the same of the mirror, or a run.
+// What a line asks for: a whole partition, the same of the mirror, a run, or the peer groups of a column.
 #[derive(Clone, Copy)]
 enum Form {
     Whole,
     Mirror,
     Run,
+    Groups,
+}
+
+// A line, without the outcome that it states.
+#[derive(Clone, Copy)]
+struct Line<'a> {
+    heap: Global,
+    text: &'a str,
+    form: Form,
+    // where the words begin that a form may not take
+    words: Bad,
+}
+
+impl Line<'_> {
+    // The line with its outcome.
+    fn answered(&self, outcome: &str) -> Result<String, Stop>
+        ensures { IfOk result (λ s. string_bytes s ≡ line_text self.now.text.now outcome.now) }
+    {
+        let text = self.text;
+        Ok(format!(in self.heap; "{text} = {outcome}")?)
+    }
 }
 
 fn read_form(cursor: &mut Cursor<'_>) -> Result<Form, Bad> {
@@ -31,6 +60,8 @@ fn read_form(cursor: &mut Cursor<'_>) -> Result<Form, Bad> {
         Form::Whole
     } else if cursor.take(b'X') {
         Form::Mirror
+    } else if cursor.take(b'G') {
+        Form::Groups
     } else {
         cursor.expect(b'H')?;
         Form::Run
@@ -46,65 +77,141 @@ fn read_limit(cursor: &mut Cursor<'_>) -> Result<(), Bad> {
     Ok(())
 }
 
-fn whole_line<K: Value>(
-    heap: Global,
-    text: &str,
+fn whole_line<E: Evaluator + Drop>(
+    line: &Line<'_>,
     cursor: &mut Cursor<'_>,
-    made: Result<WindowShift<K>, Fault>,
+    made: Result<E, Fault>,
 ) -> Result<String, Stop>
-    ensures { IfOk result (λ s. (outcome : List ℕ) × (string_bytes s ≡ line_text text.now outcome) × TellsRefusal made outcome) }
+where
+    E::Value: Value,
+    E::Answer: Answer<E::Value>,
+    ensures { IfOk result (λ s. (outcome : List ℕ) × (string_bytes s ≡ line_text line.now.text.now outcome) × TellsRefusal made outcome) }
 {
-    let outcome = answer_whole(heap, cursor, made)?;
-    Ok(format!(in heap; "{text} = {outcome}")?)
+    let outcome = answer_whole(line.heap, cursor, made)?;
+    line.answered(outcome.as_str())
 }
 
 // A run whose evaluator is refused has that refusal in the place of all outcomes.
-fn run_line<K: Value>(
-    heap: Global,
-    text: &str,
+fn run_line<E: RowEvaluator + Drop>(
+    line: &Line<'_>,
     cursor: &mut Cursor<'_>,
-    made: Result<WindowShift<K>, Fault>,
+    made: Result<E, Fault>,
 ) -> Result<String, Stop>
-    ensures { IfOk result (λ s. IfErr made (λ f. string_bytes s ≡ line_text text.now (refusal_text f))) }
+where
+    E::Value: Value,
+    E::Answer: Answer<E::Value>,
+    ensures { IfOk result (λ s. IfErr made (λ f. string_bytes s ≡ line_text line.now.text.now (refusal_text f))) }
 {
+    let heap = line.heap;
     cursor.expect(b'Z')?;
     let from_zero = bool::read(cursor)?;
     cursor.expect(b' ')?;
     read_limit(cursor)?;
     let head = cursor.since(0);
-    let steps = read_steps::<K>(heap, cursor)?;
+    let steps = read_steps::<E::Value>(heap, cursor)?;
     match made {
-        Ok(shift) => {
-            let ops = answer_run(heap, &shift, from_zero, steps.as_slice())?;
+        Ok(evaluator) => {
+            let ops = answer_run(heap, &evaluator, from_zero, steps.as_slice())?;
             Ok(format!(in heap; "{head}{ops}")?)
         }
-        Err(fault) => Ok(format!(in heap; "{text} = {}", Refusal(fault))?),
+        Err(fault) => line.answered(Refusal(fault).to_string(heap)?.as_str()),
     }
+}
+
+// The forms that each evaluator has.
+fn answer_evaluator<E: Evaluator + Drop>(
+    line: &Line<'_>,
+    cursor: &mut Cursor<'_>,
+    made: Result<E, Fault>,
+) -> Result<String, Stop>
+where
+    E::Value: Value,
+    E::Answer: Answer<E::Value>,
+{
+    match line.form {
+        Form::Whole => whole_line(line, cursor, made),
+        _ => Err(Stop::Unread(line.words)),
+    }
+}
+
+// Those of an evaluator that answers by row.
+fn answer_rows<E: RowEvaluator + Drop>(
+    line: &Line<'_>,
+    cursor: &mut Cursor<'_>,
+    made: Result<E, Fault>,
+) -> Result<String, Stop>
+where
+    E::Value: Value,
+    E::Answer: Answer<E::Value>,
+{
+    match line.form {
+        Form::Run => run_line(line, cursor, made),
+        _ => answer_evaluator(line, cursor, made),
+    }
+}
+
+// Those of one that also has a mirror.
+fn answer_mirrored<E: RowEvaluator + MirrorEvaluator + Drop>(
+    line: &Line<'_>,
+    cursor: &mut Cursor<'_>,
+    made: Result<E, Fault>,
+) -> Result<String, Stop>
+where
+    E::Value: Value,
+    E::Answer: Answer<E::Value>,
+{
+    match line.form {
+        Form::Mirror => whole_line(line, cursor, made.map(|evaluator| evaluator.mirror())),
+        _ => answer_rows(line, cursor, made),
+    }
+}
+
+// A line with a function, at its kind of values.
+fn answer_function<K: Value>(line: &Line<'_>, cursor: &mut Cursor<'_>) -> Result<String, Stop> {
+    let function = read_function::<K>(cursor)?;
+    cursor.expect(b' ')?;
+    cursor.field();
+    cursor.expect(b' ')?;
+    match function {
+        Function::Shift(shift) => answer_mirrored(line, cursor, WindowShift::try_from(shift)),
+        Function::Frames(frames) => answer_mirrored(line, cursor, NthValue::<K>::try_from(frames)),
+        Function::Rank(rank_type) => answer_rows(line, cursor, Ok(Rank::<K>::new(rank_type))),
+        Function::RowNumber => answer_rows(line, cursor, Ok(RowNumber::<K>::new())),
+        Function::PercentRank => answer_evaluator(line, cursor, Ok(PercentRank::<K>::new())),
+        Function::CumeDist => answer_evaluator(line, cursor, Ok(CumeDist::<K>::new())),
+    }
+}
+
+fn groups_line<K: Value>(line: &Line<'_>, cursor: &mut Cursor<'_>) -> Result<String, Stop> {
+    cursor.field();
+    cursor.expect(b' ')?;
+    let outcome = answer_groups::<K>(line.heap, cursor)?;
+    line.answered(outcome.as_str())
 }
 
 // The line at its kind of values.
 fn answer_at<K: Value>(heap: Global, text: &str) -> Result<String, Stop> {
     let mut cursor = Cursor::new(text);
     let form = read_form(&mut cursor)?;
-    let shift = read_shift::<K>(&mut cursor)?;
-    cursor.expect(b' ')?;
-    cursor.field();
-    cursor.expect(b' ')?;
-    let made = WindowShift::try_from(shift);
-    // the shift is read between the form's letter and its rest, so the form is kept as a value
+    let line = Line {
+        heap,
+        text,
+        form,
+        words: cursor.bad(),
+    };
     match form {
-        Form::Whole => whole_line(heap, text, &mut cursor, made),
-        Form::Mirror => whole_line(heap, text, &mut cursor, made.map(|shift| shift.mirror())),
-        Form::Run => run_line(heap, text, &mut cursor, made),
+        Form::Groups => groups_line::<K>(&line, &mut cursor),
+        _ => answer_function::<K>(&line, &mut cursor),
     }
 }
 
-// The kind is read first, since it says how the evaluator's default is read.
+// The kind is read first, since it says how a default is read.
 fn answer(heap: Global, text: &str) -> Result<String, Stop> {
     let mut cursor = Cursor::new(text);
-    read_form(&mut cursor)?;
-    cursor.field();
-    cursor.expect(b' ')?;
+    if !matches!(read_form(&mut cursor)?, Form::Groups) {
+        cursor.field();
+        cursor.expect(b' ')?;
+    }
     // only a `match` gets from a name to a type
     match read_kind(&mut cursor)? {
         KindName::Instant => answer_at::<Instant>(heap, text),

@@ -1,10 +1,14 @@
 #![tactic(auto)]
 
 // `drive [FILE]` reads lines that stand for calls, from FILE or from standard input, and writes each with its outcome.
+mod answer;
+mod groups;
+mod handed;
 mod line;
 mod ops;
 mod outcome;
 mod runs;
+mod slots;
 mod whole;
 
 use crate::line::answer_line;

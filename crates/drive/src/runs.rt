@@ -10,9 +10,8 @@ use crate::outcome::Refusal;
 use column::column::Window;
 use column::fault::Fault;
 use column::kind::Kind;
-use lead_lag::WindowShift;
 use lines::stop::Stop;
-use lines::text::{Shown, Text, Value};
+use lines::text::{Show, Shown};
 use replay::calls::{Call, Reply};
 use replay::replay::{Played, replay};
 use run::rows::RowEvaluator;
@@ -38,14 +37,14 @@ impl fmt::Display for Ending {
 
 // What a call ended in, printed as lines have it.
 #[derive(Clone, Copy)]
-struct Told<K>(Result<Reply<Option<K>>, Fault>);
+struct Told<A>(Result<Reply<A>, Fault>);
 
-impl<K: Text> fmt::Display for Told<K> {
-    ghost output = { λ x. Some (outcome_text K.Text.text x.0) };
+impl<A: Show> fmt::Display for Told<A> {
+    ghost output = { λ x. Some (outcome_text A.Show.text x.0) };
 
     fn fmt<W: fmt::Write>(&self, f: &mut fmt::Formatter<W>) -> fmt::Result {
         match self.0 {
-            Ok(Reply::Answer(cell)) => write!(f, "ok:{}", Shown(cell)),
+            Ok(Reply::Answer(answer)) => write!(f, "ok:{}", Shown(answer)),
             Err(fault) => write!(f, "{}", Refusal(fault)),
             Ok(Reply::Done) => f.write_str("ok"),
             Ok(Reply::Mark(mark)) => write!(f, "{mark}"),
@@ -108,20 +107,23 @@ fn finish<E: RowEvaluator + Drop>(
 }
 
 // The operations, each with its outcome; after an accepted finish there is none.
-pub(crate) fn answer_run<K: Value>(
+pub(crate) fn answer_run<E: RowEvaluator + Drop>(
     heap: Global,
-    shift: &WindowShift<K>,
+    evaluator: &E,
     from_zero: bool,
-    steps: &[Step<'_, K>],
-) -> Result<String, Stop> {
+    steps: &[Step<'_, E::Value>],
+) -> Result<String, Stop>
+where
+    E::Answer: Show,
+{
     let calls = calls_of(heap, steps)?;
-    let played = replay(heap, shift, from_zero, calls.as_slice())?;
+    let played = replay(heap, evaluator, from_zero, calls.as_slice())?;
     let mut text = String::new(heap);
     for (i, (step, entry)) in steps.iter().zip(played.entries.iter()).enumerate() {
         let op = step.text;
         match step.op {
             Op::Finish => {
-                let ending = finish(heap, shift, from_zero, &calls.as_slice()[..i])?;
+                let ending = finish(heap, evaluator, from_zero, &calls.as_slice()[..i])?;
                 if let (Ending(Some(Ok(_))), Some(next)) = (ending, steps.get(i + 1)) {
                     return Err(Stop::Unread(next.start));
                 }

@@ -9,7 +9,7 @@ use Rattle.lines.specs.Kinds.{NamesKind, kind_text}
 use Rattle.lines.specs.declared.kinds.KindName.{KindName}
 use Rattle.lines.specs.declared.kinds.KindName.TheVariants.{Instant, Pseudonym, Code, Outcome, InstantCode, OutcomeLogin}
 use Rattle.lines.specs.declared.kinds.UnknownKind.{UnknownKind}
-use Rattle.lines.proofs.Numbers.{byte_at, room, seam}
+use Rattle.lines.proofs.Numbers.{ascii_begins, run_ends}
 
 abbrev is_plain : List ℕ → Bool
 is_plain [] = true
@@ -21,15 +21,7 @@ plain_at (b ∷ bs) h zero k = grind (arith, h)
 plain_at (b ∷ bs) h (suc i) k = plain_at bs (search (rules, h)) i (omega (arith, k))
 
 field_end : (xs bs rest : List ℕ) (a e : ℕ) → drop a xs ≡ bs ++ rest → ((i : ℕ) → i < length bs → get_or bs i 0 ≢ 32) → EndsField rest → a ≤ e → e ≤ length xs → ((k : ℕ) → a + k < e → slice_index xs (a + k) ≢ 32) → (e < length xs → slice_index xs e ≡ 32) → e ≡ a + length bs
-field_end xs bs rest a e is plain ends low high filled stops =
-    let long = room xs bs rest a is in
-    elim (cases_lt e (a + length bs)) [
-      | inl short ↦ absurd (plain (e - a) (omega arith) (sym (get_or_append_left bs rest 0 (e - a) (omega arith)) ∙ sym (byte_at xs (bs ++ rest) a (e - a) is) ∙ ap (slice_index xs) (omega arith) ∙ stops (omega arith)))
-      | inr far ↦ elim (cases_lt (a + length bs) e) [
-        | inl past ↦ absurd (filled (length bs) past (byte_at xs (bs ++ rest) a (length bs) is ∙ seam bs rest ∙ ends (omega arith)))
-        | inr at ↦ omega arith
-      ]
-    ]
+field_end xs bs rest a e is plain ends low high filled stops = run_ends (λ b. b ≢ 32) xs bs rest a e is plain (λ some h. h (ends some)) low high (λ more h. h (stops more)) filled
 
 abbrev named_by : List ℕ → KindName
 named_by bs = cond (slice_index bs 0 == 105) Instant (cond (slice_index bs 0 == 112) Pseudonym (cond (slice_index bs 0 == 99) Code (cond (slice_index bs 0 == 111) Outcome (cond (slice_index bs 1 == 105) InstantCode OutcomeLogin))))
@@ -66,7 +58,4 @@ begins InstantCode = (omega arith, omega arith)
 begins OutcomeLogin = (omega arith, omega arith)
 
 pub kind_begins : (k : KindName) (xs rest : List ℕ) (a : ℕ) → drop a xs ≡ kind_text k ++ rest → IsCharBoundary xs a
-kind_begins k xs rest a is =
-    let long = room xs (kind_text k) rest a is in
-    let some = begins k in
-    IsCharBoundary-before_ascii xs a (omega (arith, some.0)) (subst (λ c. c < 128) (sym (get_or_append_left (kind_text k) rest 0 0 some.0) ∙ sym (byte_at xs (kind_text k ++ rest) a 0 is) ∙ ap (slice_index xs) (omega arith)) some.1)
+kind_begins k xs rest a is = ascii_begins xs (kind_text k) rest a is (begins k).0 (begins k).1

@@ -28,16 +28,20 @@ room xs bs rest a e = sym (length-drop a xs) ∙ ap length e ∙ length-append b
 pub seam : (ds rest : List ℕ) → get_or (ds ++ rest) (length ds) 0 ≡ get_or rest 0 0
 seam ds rest = ap (λ k. get_or (ds ++ rest) k 0) (omega arith) ∙ get_or-append-add ds rest 0 0
 
-digits_end : (xs ds rest : List ℕ) (a e : ℕ) → drop a xs ≡ ds ++ rest → AllDigits 10 ds → Ends rest → a ≤ e → e ≤ length xs → (e < length xs → ¬ (IsInRange 48 57 (slice_index xs e))) → ((k : ℕ) → a + k < e → IsInRange 48 57 (slice_index xs (a + k))) → e ≡ a + length ds
-digits_end xs ds rest a e is digits ends low high stops each =
-    let long : length xs - a ≡ length ds + length rest = room xs ds rest a is in
-    elim (cases_lt e (a + length ds)) [
-      | inl short ↦ absurd (stops (omega arith) (subst (λ c. IsInRange 48 57 c) (sym (get_or_append_left ds rest 0 (e - a) (omega arith)) ∙ sym (byte_at xs (ds ++ rest) a (e - a) is) ∙ ap (slice_index xs) (omega arith)) (digit_at ds (e - a) digits (omega arith))))
-      | inr far ↦ elim (cases_lt (a + length ds) e) [
-        | inl past ↦ absurd (ends (subst (λ c. IsInRange 48 57 c) (byte_at xs (ds ++ rest) a (length ds) is ∙ seam ds rest) (each (length ds) past)))
+-- a run of bytes that pass a test ends where it was shown to
+pub run_ends : (P : ℕ → Type 0) (xs bs rest : List ℕ) (a e : ℕ) → drop a xs ≡ bs ++ rest → ((k : ℕ) → k < length bs → P (get_or bs k 0)) → (0 < length rest → ¬ (P (slice_index rest 0))) → a ≤ e → e ≤ length xs → (e < length xs → ¬ (P (slice_index xs e))) → ((k : ℕ) → a + k < e → P (slice_index xs (a + k))) → e ≡ a + length bs
+run_ends P xs bs rest a e is passes ends low high stops each =
+    let long : length xs - a ≡ length bs + length rest = room xs bs rest a is in
+    elim (cases_lt e (a + length bs)) [
+      | inl short ↦ absurd (stops (omega arith) (subst P (sym (get_or_append_left bs rest 0 (e - a) (omega arith)) ∙ sym (byte_at xs (bs ++ rest) a (e - a) is) ∙ ap (slice_index xs) (omega arith)) (passes (e - a) (omega arith))))
+      | inr far ↦ elim (cases_lt (a + length bs) e) [
+        | inl past ↦ absurd (ends (omega arith) (subst P (byte_at xs (bs ++ rest) a (length bs) is ∙ seam bs rest) (each (length bs) past)))
         | inr at ↦ omega arith
       ]
     ]
+
+digits_end : (xs ds rest : List ℕ) (a e : ℕ) → drop a xs ≡ ds ++ rest → AllDigits 10 ds → Ends rest → a ≤ e → e ≤ length xs → (e < length xs → ¬ (IsInRange 48 57 (slice_index xs e))) → ((k : ℕ) → a + k < e → IsInRange 48 57 (slice_index xs (a + k))) → e ≡ a + length ds
+digits_end xs ds rest a e is digits ends = run_ends (IsInRange 48 57) xs ds rest a e is (λ k h. digit_at ds k digits h) (λ h. ends)
 
 signed_end : (m : Bool) (b : ℕ) (xs ds rest : List ℕ) (a d e : ℕ) → drop a xs ≡ b ∷ (ds ++ rest) → Ends rest → IsNumeral 10 (drop (cond m 1 0) (b ∷ ds)) → d ≡ a + cond m 1 0 → d ≤ e → e ≤ length xs → (e < length xs → ¬ (IsInRange 48 57 (slice_index xs e))) → ((k : ℕ) → d + k < e → IsInRange 48 57 (slice_index xs (d + k))) → e ≡ a + length (b ∷ ds)
 signed_end true b xs ds rest a d e is ends n begin low high stops each =
@@ -65,20 +69,25 @@ some_bytes : (bs : List ℕ) → IsNumber bs → 0 < length bs
 some_bytes [] n = absurd (omega (arith, n.0))
 some_bytes (b ∷ ds) n = omega arith
 
-ascii_at : (xs bs rest : List ℕ) (a i : ℕ) → drop a xs ≡ bs ++ rest → IsNumber bs → i < length bs → get_or xs (a + i) 0 < 128
-ascii_at xs bs rest a i e n h = subst (λ c. c < 128) (sym (get_or_append_left bs rest 0 i h) ∙ sym (byte_at xs (bs ++ rest) a i e)) (number_ascii bs n i)
+byte_of : (xs bs rest : List ℕ) (a i : ℕ) → drop a xs ≡ bs ++ rest → i < length bs → get_or bs i 0 < 128 → get_or xs (a + i) 0 < 128
+byte_of xs bs rest a i e h plain = subst (λ c. c < 128) (sym (get_or_append_left bs rest 0 i h) ∙ sym (byte_at xs (bs ++ rest) a i e)) plain
+
+-- where an ASCII byte stands, or stood, a character begins
+pub ascii_begins : (xs bs rest : List ℕ) (a : ℕ) → drop a xs ≡ bs ++ rest → 0 < length bs → get_or bs 0 0 < 128 → IsCharBoundary xs a
+ascii_begins xs bs rest a e some plain =
+    let long = room xs bs rest a e in
+    IsCharBoundary-before_ascii xs a (omega arith) (subst (λ i. get_or xs i 0 < 128) (omega arith) (byte_of xs bs rest a 0 e some plain))
+
+pub ascii_stops : (xs bs rest : List ℕ) (a : ℕ) → IsUtf8 xs → drop a xs ≡ bs ++ rest → 0 < length bs → get_or bs (length bs - 1) 0 < 128 → IsCharBoundary xs (a + length bs)
+ascii_stops xs bs rest a utf8 e some plain =
+    let long = room xs bs rest a e in
+    subst (IsCharBoundary xs) (omega arith) (IsCharBoundary-after_ascii xs (a + (length bs - 1)) utf8 (omega arith) (byte_of xs bs rest a (length bs - 1) e (omega arith) plain))
 
 pub number_begins : (xs bs rest : List ℕ) (a : ℕ) → drop a xs ≡ bs ++ rest → IsNumber bs → IsCharBoundary xs a
-number_begins xs bs rest a e n =
-    let some = some_bytes bs n in
-    let long = room xs bs rest a e in
-    IsCharBoundary-before_ascii xs a (omega arith) (subst (λ i. get_or xs i 0 < 128) (omega arith) (ascii_at xs bs rest a 0 e n some))
+number_begins xs bs rest a e n = ascii_begins xs bs rest a e (some_bytes bs n) (number_ascii bs n 0)
 
 pub number_stops : (xs bs rest : List ℕ) (a : ℕ) → IsUtf8 xs → drop a xs ≡ bs ++ rest → IsNumber bs → IsCharBoundary xs (a + length bs)
-number_stops xs bs rest a utf8 e n =
-    let some = some_bytes bs n in
-    let long = room xs bs rest a e in
-    subst (IsCharBoundary xs) (omega arith) (IsCharBoundary-after_ascii xs (a + (length bs - 1)) utf8 (omega arith) (ascii_at xs bs rest a (length bs - 1) e n (omega arith)))
+number_stops xs bs rest a utf8 e n = ascii_stops xs bs rest a utf8 e (some_bytes bs n) (number_ascii bs n (length bs - 1))
 
 pub number_text : (xs bs rest : List ℕ) (a : ℕ) → drop a xs ≡ bs ++ rest → slice_range xs a (a + length bs) ≡ bs
 number_text xs bs rest a e = ap (λ k. take k (drop a xs)) (omega arith) ∙ ap (take (length bs)) e ∙ take-append_seam bs rest

@@ -1,5 +1,5 @@
 -- The values of a type: their numbers are in its range.
-use Rattle.std.specs.Prelude.{◌≢◌, ℕ, ◌<◌, ◌^◌, ⊤, List, [], ◌∷◌, length, Option, Some, None, slice_index, FitsSigned}
+use Rattle.std.specs.Prelude.{ℕ, ◌<◌, ◌^◌, ⊤, List, [], ◌∷◌, Option, Some, None, FitsSigned}
 use Rattle.std.specs.Int.{w64}
 use Rattle.column.specs.declared.kind.Instant.{Instant}
 use Rattle.column.specs.declared.kind.Pseudonym.{Pseudonym}
@@ -25,15 +25,15 @@ OutcomeFits TimedOut = ⊤
 abbrev pub PairFits : {A B : Type 0} → (A → Type 0) → (B → Type 0) → Pair A B → Type 0
 PairFits FirstFits SecondFits x = FirstFits x.first × SecondFits x.second
 
--- the text of a value is not empty, and does not begin as that of NULL does
-abbrev pub CellFits : {V : Type 0} → (V → Type 0) → (V → List ℕ) → Option V → Type 0
-CellFits ValueFits value_text None = ⊤
-CellFits ValueFits value_text (Some v) = ValueFits v × (0 < length (value_text v)) × (slice_index (value_text v) 0 ≢ 95)
+-- NULL, or a value that fits
+abbrev pub CellFits : {V : Type 0} → (V → Type 0) → Option V → Type 0
+CellFits ValueFits None = ⊤
+CellFits ValueFits (Some v) = ValueFits v
 
 abbrev pub SpanFits : ℕ × ℕ → Type 0
 SpanFits x = (x.0 < 2 ^ 64) × (x.1 < 2 ^ 64)
 
--- each fits, and its text is not empty and does not begin as a list ends
-abbrev pub ListFits : {V : Type 0} → (V → Type 0) → (V → List ℕ) → List V → Type 0
-ListFits ValueFits value_text [] = ⊤
-ListFits ValueFits value_text (x ∷ xs) = ValueFits x × (0 < length (value_text x)) × (slice_index (value_text x) 0 ≢ 93) × ListFits ValueFits value_text xs
+-- each fits
+abbrev pub ListFits : {V : Type 0} → (V → Type 0) → List V → Type 0
+ListFits ValueFits [] = ⊤
+ListFits ValueFits (x ∷ xs) = ValueFits x × ListFits ValueFits xs

@@ -1,4 +1,5 @@
 pub mod Back
+pub mod Begins
 pub mod Cursors
 pub mod Fits
 pub mod Kinds

@@ -1,6 +1,8 @@
 -- The texts of values.
-use Rattle.std.specs.Prelude.{ℕ, Bool, true, false, List, [], ◌∷◌, ◌++◌, Some, None, codes, decimal, Option}
-use Rattle.std.specs.Fmt.{signed_decimal}
+use Rattle.std.specs.Prelude.{ℕ, ◌-◌, ◌^◌, Bool, true, false, List, [], ◌∷◌, ◌++◌, Some, None, codes, decimal, Float, Option}
+use Rattle.std.specs.Float.{binary64}
+use Rattle.std.specs.Float.Ieee.{to_bits}
+use Rattle.std.specs.Fmt.{signed_decimal, digits, format_spec, padded_integral}
 use Rattle.std.specs.List.{flat_map}
 use Rattle.column.specs.declared.kind.Instant.{Instant}
 use Rattle.column.specs.declared.kind.Pseudonym.{Pseudonym}
@@ -48,3 +50,11 @@ joined one (x ∷ xs) = one x ++ rest_text one xs
 
 abbrev pub list_text : {V : Type 0} → (V → List ℕ) → List V → List ℕ
 list_text one xs = codes "[" ++ (joined one xs ++ codes "]")
+
+-- a column's lists, with a byte between them
+abbrev pub column_text : {V : Type 0} → (V → List ℕ) → ℕ → List V → List Bool → List ℕ
+column_text one between values marks = codes "V" ++ (list_text one values ++ (between ∷ (codes "M" ++ list_text mark_text marks)))
+
+-- the bits of a double, in 16 hexadecimal digits
+abbrev pub fraction_text : Float → List ℕ
+fraction_text x = padded_integral (format_spec 32 0 4 16 (2 ^ 64 - 1)) false [] (digits 16 false (to_bits binary64 x))

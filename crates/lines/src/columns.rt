@@ -1,5 +1,8 @@
-ghost use Rattle.std.specs.Prelude.{◌≡◌};
-ghost use Rattle.lines.specs.Cursors.{Onward};
+ghost use Rattle.std.specs.Prelude.{◌≡◌, ℕ, Bool, List, [], ◌∷◌, ◌++◌, codes, MatchResult};
+ghost use Rattle.lines.specs.Cursors.{Onward, ahead};
+ghost use Rattle.lines.specs.Fits.{ListFits, SpanFits};
+ghost use Rattle.lines.specs.Texts.{column_text, list_text, span_text};
+ghost use Rattle.lines.specs.declared.stop.Stop.TheVariants.{Memory};
 
 use crate::cursor::Cursor;
 use crate::list::read_list;
@@ -33,7 +36,8 @@ pub fn read_column<K: Text>(
     cursor: &mut Cursor<'_>,
     between: u8,
 ) -> Result<Lists<K>, Stop>
-    ensures { Onward cursor.old cursor.new }
+    ensures back { (values : List K) (marks : List Bool) (rest : List ℕ) → ListFits K.Text.fits values → ahead cursor.old ≡ column_text K.Show.text between values marks ++ rest → MatchResult result (λ c. (c.values.items ≡ values) × (c.marks.items ≡ marks) × (ahead cursor.new ≡ rest)) (λ s. s ≡ Memory) }
+    ensures onward { Onward cursor.old cursor.new }
 {
     cursor.expect(b'V')?;
     let values = read_list::<K>(heap, cursor)?;
@@ -49,7 +53,9 @@ pub fn read_spans(
     cursor: &mut Cursor<'_>,
     letter: u8,
 ) -> Result<Vec<(usize, usize)>, Stop>
-    ensures { Onward cursor.old cursor.new }
+    ensures back { (spans : List (ℕ × ℕ)) (rest : List ℕ) → ListFits SpanFits spans → ahead cursor.old ≡ (letter ∷ list_text span_text spans) ++ rest → MatchResult result (λ v. (v.items ≡ spans) × (ahead cursor.new ≡ rest)) (λ s. s ≡ Memory) }
+    ensures absent { (rest : List ℕ) → ahead cursor.old ≡ letter ∷ (codes "-" ++ rest) → MatchResult result (λ v. (v.items ≡ []) × (ahead cursor.new ≡ rest)) (λ _. ⊥) }
+    ensures onward { Onward cursor.old cursor.new }
 {
     cursor.expect(letter)?;
     if cursor.take(b'-') {

@@ -6,7 +6,6 @@ pub mod cursor;
 pub mod kinds;
 pub mod list;
 pub mod scan;
-pub mod shift;
 pub mod stop;
 pub mod text;
 pub mod values;

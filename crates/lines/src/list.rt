@@ -6,13 +6,13 @@ ghost use Rattle.lines.specs.Texts.{list_text};
 
 use crate::cursor::Cursor;
 use crate::stop::Stop;
-use crate::text::{Shown, Text};
+use crate::text::{Show, Shown, Text};
 use std::alloc::Global;
 use std::fmt;
 
 // `[x,y,..]`.
 pub fn read_list<T: Text>(heap: Global, cursor: &mut Cursor<'_>) -> Result<Vec<T>, Stop>
-    ensures back { (xs : List T) (rest : List ℕ) → ListFits T.Text.fits T.Text.text xs → ahead cursor.old ≡ list_text T.Text.text xs ++ rest → MatchResult result (λ v. (v.items ≡ xs) × (ahead cursor.new ≡ rest)) (λ s. s ≡ Memory) }
+    ensures back { (xs : List T) (rest : List ℕ) → ListFits T.Text.fits xs → ahead cursor.old ≡ list_text T.Show.text xs ++ rest → MatchResult result (λ v. (v.items ≡ xs) × (ahead cursor.new ≡ rest)) (λ s. s ≡ Memory) }
     ensures onward { Onward cursor.old cursor.new }
 {
     let mut items = Vec::new(heap);
@@ -35,8 +35,8 @@ pub fn read_list<T: Text>(heap: Global, cursor: &mut Cursor<'_>) -> Result<Vec<T
 #[derive(Clone, Copy)]
 pub struct ShownList<'a, T>(pub &'a [T]);
 
-impl<T: Text> fmt::Display for ShownList<'_, T> {
-    ghost output = { λ x. Some (list_text T.Text.text x.0.now) };
+impl<T: Show> fmt::Display for ShownList<'_, T> {
+    ghost output = { λ x. Some (list_text T.Show.text x.0.now) };
 
     fn fmt<W: fmt::Write>(&self, f: &mut fmt::Formatter<W>) -> fmt::Result {
         f.write_str("[")?;

@@ -3,9 +3,9 @@
 // `IsCharBoundary` is a premise and no ghost field: `take` and `run` go by bytes, so they may stop inside a character.
 ghost use Rattle.std.specs.Prelude.{◌≡◌, ◌≢◌, ℕ, List, [], ◌∷◌, ◌++◌, drop, ◌+◌, ◌-◌, ◌^◌, ◌<◌, ◌≤◌, T, false, true, length, IfOk, IfErr, if◌then◌else◌, Ok, OnOk, MatchResult, decimal, nat_le, slice_get, slice_index, slice_range};
 ghost use Rattle.std.specs.Int.{IsInRange};
-ghost use Rattle.std.specs.Str.{IsCharBoundary};
+ghost use Rattle.std.specs.Str.{IsCharBoundary, IsUtf8};
 ghost use Rattle.std.specs.Range.{range_inclusive_start, range_inclusive_end, range_inclusive_exhausted};
-ghost use Rattle.lines.specs.Back.{Ends, IsNumber, IsReadAs, ReadsBack};
+ghost use Rattle.lines.specs.Back.{Ends, EndsWord, IsNumber, IsReadAs, IsWord, ReadsBack};
 ghost use Rattle.lines.specs.Cursors.{Onward, ahead, passed};
 ghost use Rattle.lines.specs.Reads.{ReadsUnsigned};
 
@@ -149,6 +149,7 @@ impl<'a> Cursor<'a> {
         ensures stops { self.new.at < length self.old.text.now → F.post passes (slice_index self.old.text.now self.new.at) false }
         ensures each { (k : ℕ) → self.old.at + k < self.new.at → F.post passes (slice_index self.old.text.now (self.old.at + k)) true }
         ensures text { IsCharBoundary self.old.text.now self.old.at → IsCharBoundary self.old.text.now self.new.at → result.now ≡ passed self.old self.new }
+        ensures utf8 { IsUtf8 self.old.text.now }
         ensures onward { Onward self.old self.new }
     {
         let from = self.at;
@@ -161,6 +162,7 @@ impl<'a> Cursor<'a> {
         ensures text { IsCharBoundary self.old.text.now self.old.at → IsCharBoundary self.old.text.now self.new.at → result.now ≡ passed self.old self.new }
         ensures letters { (k : ℕ) → self.old.at + k < self.new.at → IsInRange 97 122 (slice_index self.old.text.now (self.old.at + k)) }
         ensures stops { self.new.at < length self.old.text.now → ¬ (IsInRange 97 122 (slice_index self.old.text.now self.new.at)) }
+        ensures back { (bs rest : List ℕ) → IsWord bs → ahead self.old ≡ bs ++ rest → EndsWord rest → (result.now ≡ bs) × (ahead self.new ≡ rest) }
         ensures onward { Onward self.old self.new }
     {
         self.run(|b| b.is_ascii_lowercase())

@@ -107,12 +107,17 @@ fn all_null(rt: HostRuntime) -> Result<(), Fail> {
 // 0, NULL and the extremes count to no row.
 #[test]
 fn extremes(rt: HostRuntime) -> Result<(), Fail> {
-    check_answers(&rt, &NthValue::nth(Argument::Null, true)?, [77; 6])?;
-    check_answers(&rt, &NthValue::nth(Argument::Signed(0), false)?, [77; 6])?;
-    let largest = NthValue::nth(Argument::Signed(i64::MAX), true)?;
-    check_answers(&rt, &largest, [77; 6])?;
-    let smallest = NthValue::nth(Argument::Signed(-9223372036854775807), true)?;
-    check_answers(&rt, &smallest, [77; 6])
+    for ignore_nulls in [false, true] {
+        for n in [
+            Argument::Null,
+            Argument::Signed(0),
+            Argument::Signed(i64::MAX),
+            Argument::Signed(-9223372036854775807),
+        ] {
+            check_answers(&rt, &NthValue::nth(n, ignore_nulls)?, [77; 6])?;
+        }
+    }
+    Ok(())
 }
 
 fn refusal(argument: Argument) -> Option<Fault> {

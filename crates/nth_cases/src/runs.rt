@@ -72,6 +72,52 @@ fn others_settled(rt: HostRuntime) -> Result<(), Fail> {
     Ok(())
 }
 
+// Settled once more the mark follows the frame's end, and the fixed answer stays. A frame of exactly n rows is enough.
+#[test]
+fn settled_again(rt: HostRuntime) -> Result<(), Fail> {
+    let mut second = Open::new(&NthValue::nth(Argument::Signed(2), false)?, true);
+    let three = Window::new(0, &VALUES[0..3], &[true; 3]);
+    for _ in 0..3 {
+        assert_eq!(rt; second.request(&three, Some((0, 2))), Ok(Some(Instant(6))));
+    }
+    assert_eq!(rt; second.settle(), Ok(()));
+    assert_eq!(rt; second.keep_mark(), 1);
+    let from_one = Window::new(1, &VALUES[1..4], &[false; 3]);
+    assert_eq!(rt;
+        second.request(&from_one, Some((0, 4))),
+        Ok(Some(Instant(6)))
+    );
+    assert_eq!(rt; second.settle(), Ok(()));
+    assert_eq!(rt; second.keep_mark(), 3);
+    Ok(())
+}
+
+// Where there is nothing to settle every row stays: with NULLs ignored, n = 0, the extremes, and FIRST over an empty frame.
+#[test]
+fn nothing_settled(rt: HostRuntime) -> Result<(), Fail> {
+    let all = Window::new(0, &VALUES, &[true; 4]);
+    for function in [
+        NthValue::last(true),
+        NthValue::nth(Argument::Signed(1), true)?,
+        NthValue::nth(Argument::Signed(-1), true)?,
+        NthValue::nth(Argument::Null, false)?,
+        NthValue::nth(Argument::Signed(i64::MAX), false)?,
+        NthValue::nth(Argument::Signed(-9223372036854775807), false)?,
+    ] {
+        let mut run = Open::new(&function, true);
+        run.request(&all, Some((0, 3)))?;
+        run.request(&all, Some((0, 4)))?;
+        assert_eq!(rt; run.settle(), Ok(()));
+        assert_eq!(rt; run.keep_mark(), 0);
+    }
+    let mut empty = Open::new(&NthValue::first(false), true);
+    assert_eq!(rt; empty.request(&all, Some((0, 0))), Ok(None));
+    assert_eq!(rt; empty.settle(), Ok(()));
+    assert_eq!(rt; empty.keep_mark(), 0);
+    assert_eq!(rt; empty.request(&all, Some((0, 1))), Ok(Some(Instant(5))));
+    Ok(())
+}
+
 // A frame that ends past the window is too early until the total is known; a frame ahead of the row moves the mark.
 #[test]
 fn early_and_ahead(rt: HostRuntime) {

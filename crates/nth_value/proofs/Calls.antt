@@ -10,21 +10,22 @@ use Rattle.evaluator.specs.Meaning.{Partition, Alike, settles}
 use Rattle.run.specs.Shown.{end_of, frame_at}
 use Rattle.run.specs.Rows.{Handed, Asks, RowCall, SettleCall}
 use Rattle.run.proofs.Seen.{seen_rows, seen_within, seen_frame, seen_view, hidden_view, given_ok}
+use Rattle.nth_value.specs.declared.kind.NthValueKind.{NthValueKind}
 use Rattle.nth_value.specs.declared.kind.Pick.{Pick}
 use Rattle.nth_value.specs.declared.state.NthValueState.{NthValueState}
 use Rattle.nth_value.specs.declared.NthValue.{NthValue}
 use Rattle.nth_value.specs.Frames.{pick_of}
 use Rattle.nth_value.specs.Settling.{answer_by, answered, settled_by}
-use Rattle.nth_value.specs.Nth.{nth_answer, Hides, Holding, nth_meaning, holding, nth_renewed}
+use Rattle.nth_value.specs.Nth.{nth_answer, Hides, Holding, nth_meaning, holding, new_of}
 use Rattle.nth_value.proofs.Holds.{fresh_holds, holds_on, answer_is}
 use Rattle.nth_value.proofs.Settles.{settles_holds, settling_rises}
 
 pub alike : {V : Type 0} (e : NthValue V) (h : NthValueState V) → Alike (nth_meaning e) (nth_meaning (holding e h))
 alike e h = record { answer = λ p i. refl; settled = λ rows frames known i. refl }
 
--- made fresh it stands at row 0 of every partition
-pub fresh_stands : {V : Type 0} (e r : NthValue V) → r ≡ nth_renewed e → (p : Partition V) → (nth_meaning r).stands p 0
-fresh_stands e r q p = subst (λ (x : NthValue _). (nth_meaning x).stands p 0) (sym q) (fresh_holds (pick_of e.kind) e.ignore_nulls p)
+-- a new one stands at row 0 of every partition
+pub fresh_stands : {V : Type 0} (e : NthValue V) (kind : NthValueKind) (ignoring : Bool) → e ≡ new_of kind ignoring → (p : Partition V) → (nth_meaning e).stands p 0
+fresh_stands e kind ignoring q p = subst (λ (x : NthValue _). (nth_meaning x).stands p 0) (sym q) (fresh_holds (pick_of kind) ignoring p)
 
 -- settling
 pub settle-call : {V : Type 0} (e : NthValue V) (i : ℕ) (last : Frame) (h : NthValueState V) → h ≡ settled_by e.kind e.ignore_nulls e.state i last → SettleCall nth_meaning true i last e (holding e h)

@@ -1,5 +1,5 @@
 -- What is known between one frame of a partition and the next.
-use Rattle.std.specs.Prelude.{◌≡◌, ℕ, ◌+◌, ◌-◌, ◌^◌, ◌<◌, min, true, false, List, length, Option}
+use Rattle.std.specs.Prelude.{◌≡◌, ℕ, ◌-◌, ◌<◌, true, false, List, Option}
 use Rattle.std.specs.List.{slice_get}
 use Rattle.column.specs.declared.column.Window.{Window}
 use Rattle.column.specs.Cells.{view}
@@ -19,10 +19,6 @@ abbrev pub Proper : Pick → Type 0
 Proper Nothing = Unit {0}
 Proper (FromStart m) = 0 < m
 Proper (FromEnd m) = 0 < m
-
--- the row after the window's last, or the largest number where it lies above that
-abbrev pub window_end : {V : Type 0} → Window V → ℕ
-window_end w = min (w.begin + length w.rows.values.now) (2 ^ 64 - 1)
 
 -- the window shows all rows
 abbrev pub ShowsAll : {V : Type 0} → Window V → List (Option V) → Type 0

@@ -2,6 +2,7 @@ pub mod Frames
 pub mod Settling
 pub mod Cursors
 pub mod Nth
+pub mod Marks
 pub mod Cases
 pub mod Lawful
 pub mod Local

@@ -4,9 +4,10 @@
 ghost use Rattle.std.specs.Prelude.{◌≡◌, ℕ, ◌-◌, ◌≤◌, List, reverse, length, Option as Cell};
 ghost use Rattle.std.specs.List.{slice_get};
 ghost use Rattle.column.specs.Cells.{view};
+ghost use Rattle.column.specs.Windows.{window_end};
 ghost use Rattle.present.specs.Present.{at, ahead};
 ghost use Rattle.nth_value.specs.Frames.{picked, frame_rows};
-ghost use Rattle.nth_value.specs.Cursors.{window_end, ShowsAll, Reaches, Passes, Knows, finds, Proper};
+ghost use Rattle.nth_value.specs.Cursors.{ShowsAll, Reaches, Passes, Knows, finds, Proper};
 
 use crate::frames::Seek;
 use crate::kind::Pick;

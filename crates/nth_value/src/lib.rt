@@ -3,11 +3,12 @@
 // and a row call is told its window and refuses a row that is too early.
 #![tactic(auto)]
 
-ghost use Rattle.std.specs.Prelude.{◌≡◌, true, false};
+ghost use Rattle.std.specs.Prelude.{◌≡◌, true, false, IfOk};
 ghost use Rattle.column.specs.Cells.{view};
 ghost use Rattle.nth_value.specs.declared.kind.NthValueKind.TheVariants.{First, Last};
 ghost use Rattle.nth_value.specs.Cases.{Cases};
 ghost use Rattle.nth_value.specs.Frames.{pick_of};
+ghost use Rattle.nth_value.specs.Marks.{SettledMark};
 ghost use Rattle.nth_value.specs.Settling.{answer_by, MarkLaw};
 ghost use Rattle.nth_value.specs.Nth.{nth_meaning, nth_renewed, nth_stepped, nth_settling, nth_mirrored, new_of, making};
 ghost use Rattle.nth_value.specs.Lawful.{nth_lawful};
@@ -41,8 +42,10 @@ pub struct NthValue<K> {
 }
 
 impl<K: Kind> NthValue<K> {
+    #[tactic(auto, using(crate::proofs::Marks::settled_mark))]
     fn new(kind: NthValueKind, ignore_nulls: bool) -> NthValue<K>
-        ensures { result ≡ new_of kind ignore_nulls }
+        ensures is { result ≡ new_of kind ignore_nulls }
+        ensures mark { SettledMark result }
     {
         NthValue {
             kind,
@@ -52,20 +55,23 @@ impl<K: Kind> NthValue<K> {
     }
 
     pub fn first(ignore_nulls: bool) -> NthValue<K>
-        ensures { result ≡ new_of First ignore_nulls }
+        ensures is { result ≡ new_of First ignore_nulls }
+        ensures mark { SettledMark result }
     {
         NthValue::new(NthValueKind::First, ignore_nulls)
     }
 
     pub fn last(ignore_nulls: bool) -> NthValue<K>
-        ensures { result ≡ new_of Last ignore_nulls }
+        ensures is { result ≡ new_of Last ignore_nulls }
+        ensures mark { SettledMark result }
     {
         NthValue::new(NthValueKind::Last, ignore_nulls)
     }
 
     // A positive n counts from the frame's start, a negative one from its end.
     pub fn nth(n: Argument, ignore_nulls: bool) -> Result<NthValue<K>, Fault>
-        ensures { result ≡ making n ignore_nulls }
+        ensures is { result ≡ making n ignore_nulls }
+        ensures mark { IfOk result SettledMark }
     {
         let n = get_signed_integer(n)?.ok_or(Fault::MissingArgument(1))?;
         if n == i64::MIN {

@@ -2,6 +2,7 @@
 use Rattle.std.specs.Prelude.{◌≡◌, ℕ, ◌+◌, ◌-◌, min, max, cond, List, [], length, is_some, Some, None, Option, nat_lt}
 use Rattle.std.specs.Option.{unwrap_or}
 use Rattle.std.specs.List.{slice_get}
+use Rattle.column.specs.Windows.{greatest_row}
 use Rattle.present.specs.declared.held.Held.{Held}
 use Rattle.present.specs.declared.held.Counted.{Counted}
 use Rattle.present.specs.Present.{at, before, ahead}
@@ -32,9 +33,18 @@ oldest_source m h = oldest_of m h.counted
 abbrev pub held_mark : ℕ → Held → ℕ
 held_mark m h = unwrap_or (oldest_source m h) 0
 
--- the first present row after row o, before row n; row o if there is none
+-- the first present row after row o, before row n
+abbrev pub next_after : {V : Type 0} → (ℕ → Option V) → ℕ → ℕ → Option ℕ
+next_after cell o n = slice_get (ahead cell (o + 1) (n - (o + 1))) 0
+
+-- the same; row o if there is none
 abbrev pub next_present : {V : Type 0} → (ℕ → Option V) → ℕ → ℕ → ℕ
-next_present cell o n = unwrap_or (slice_get (ahead cell (o + 1) (n - (o + 1))) 0) o
+next_present cell o n = unwrap_or (next_after cell o n) o
+
+-- a row found ahead of row i, one row on: past a present row the next present one, before row n
+abbrev pub moved_on : {V : Type 0} → (ℕ → Option V) → Option ℕ → ℕ → ℕ → Option ℕ
+moved_on cell None i n = None
+moved_on cell (Some o) i n = cond (is_some (cell i)) (next_after cell o n) (Some o)
 
 -- row i counted, before row n: as one more, or in place of the oldest
 abbrev pub counted : {V : Type 0} → ℕ → Option Counted → (ℕ → Option V) → ℕ → ℕ → Counted
@@ -54,10 +64,6 @@ counted_row m h cell i n = record {
   counted = cond (is_some (cell i)) (Some (counted m h.counted cell i n)) h.counted;
 }
 
--- the greatest number that a row can have
-abbrev pub last_row : ℕ
-last_row = 18446744073709551615
-
 -- the row after row i, as far as there is a number for it
 abbrev pub row_after : ℕ → ℕ
-row_after i = min (i + 1) last_row
+row_after i = min (i + 1) greatest_row

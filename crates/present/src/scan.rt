@@ -3,6 +3,7 @@ ghost use Rattle.std.specs.Prelude.{◌≡◌, ℕ, ◌+◌, ◌-◌, reverse};
 ghost use Rattle.std.specs.List.{slice_get};
 ghost use Rattle.column.specs.Cells.{view};
 ghost use Rattle.present.specs.Present.{ahead};
+ghost use Rattle.present.specs.Counting.{moved_on, next_after};
 
 use column::column::Window;
 use column::kind::Kind;
@@ -40,7 +41,7 @@ pub(crate) fn present_after<K: Kind>(
     row: usize,
     end: usize,
 ) -> Option<usize>
-    ensures { result ≡ slice_get (ahead (view window.now) (row + 1) (end - (row + 1))) 0 }
+    ensures { result ≡ next_after (view window.now) row end }
 {
     present_ahead(window, row.saturating_add(1), end, 1)
 }
@@ -53,7 +54,8 @@ pub fn pass_ahead<K: Kind>(
     row: usize,
     n: usize,
 ) -> Option<usize>
-    ensures { (j : ℕ) → source ≡ slice_get (ahead (view window.now) row (n - row)) j → result ≡ slice_get (ahead (view window.now) (row + 1) (n - (row + 1))) j }
+    ensures is { result ≡ moved_on (view window.now) source row n }
+    ensures next { (j : ℕ) → source ≡ slice_get (ahead (view window.now) row (n - row)) j → result ≡ slice_get (ahead (view window.now) (row + 1) (n - (row + 1))) j }
 {
     if window.cell(row).is_none() {
         return source;

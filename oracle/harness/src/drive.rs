@@ -97,17 +97,8 @@ impl Drive {
     }
 
     fn judge(&mut self, line: &Line, found: &str) {
-        let not_built = found.ends_with("= bad:3") || found == format!("{line} = bad:1");
         let sort = sort_of(line, self.is_wild);
-        let sort = if not_built {
-            format!("{sort}, which drive has not")
-        } else {
-            sort
-        };
         *self.counts.entry(sort).or_default() += 1;
-        if not_built {
-            return;
-        }
         let expected = match line {
             Line::Run(run) if self.is_wild && holds_rows(run) => match laws_kept(run, found) {
                 Ok(()) => found.to_string(),

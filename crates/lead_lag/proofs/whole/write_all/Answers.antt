@@ -16,7 +16,7 @@ ahead-preserved g c =
     let o = g.O.Output in
     let col = c.args.column.now in
     let long = length-cells col.values.now col.marks.now c.requires.lengths in
-    (one_more o.slots o.stored o.size o.place o.laws _ _ _ _ _ _ _ c.ahead.invariant.0 c.put.ensures.slots c.put.ensures.place (ahead_answer col c.in-Ahead.m c.args.default _ c.ahead.i c.ahead.source c.take_cell.result (sym long) c.ahead.invariant.1 c.take_cell.ensures), c.pass_ahead-source.ensures (c.in-Ahead.m - 1) c.ahead.invariant.1)
+    (one_more o.slots o.stored o.size o.place o.laws _ _ _ _ _ _ _ c.ahead.invariant.0 c.put.ensures.slots c.put.ensures.place (ahead_answer col c.in-Ahead.m c.args.default _ c.ahead.i c.ahead.source c.take_cell.result (sym long) c.ahead.invariant.1 c.take_cell.ensures), c.pass_ahead-source.ensures.next (c.in-Ahead.m - 1) c.ahead.invariant.1)
 
 pub rows-init : goal.rows-init
 rows-init g c =

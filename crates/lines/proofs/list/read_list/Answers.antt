@@ -8,7 +8,7 @@ use Rattle.lines.proofs.list.read_list.Goals as goal
 pub returns-in_err-read-clause-back : goal.returns-in_err-read-clause-back
 returns-in_err-read-clause-back g c [] rest fits e = absurd (search (rules, c.take.ensures.back rest (c.expect.ensures.back _ e).1))
 returns-in_err-read-clause-back g c (y ∷ ys) rest fits e =
-    let text = g.T.Text.text in
+    let text = g.T.Show.text in
     let begun = still c.expect.new.self c.take.new.self _ c.if-take.false c.take.ensures.step c.take.ensures.onward ∙ (c.expect.ensures.back _ e).1 ∙ append_assoc (joined text (y ∷ ys)) (codes "]") rest in
     let left = c.loop-items.invariant.1 y ys rest fits begun in
     let read = item_read g.T.Text.fits text (y ∷ ys) (vec_items c.loop-items.items) c.loop-items.cursor c.read.new.cursor c.read.result rest c.read.ensures.back left in
@@ -19,14 +19,14 @@ loop-items-preserved g c = (
   search rules,
   λ y ys rest fits e.
       let left = c.loop-items.invariant.1 y ys rest fits e in
-      let read = item_read g.T.Text.fits g.T.Text.text (y ∷ ys) (vec_items c.loop-items.items) c.loop-items.cursor c.read.new.cursor c.read.result rest c.read.ensures.back left in
-      comma_read g.T.Text.fits g.T.Text.text (y ∷ ys) (vec_items c.loop-items.items) (vec_items c.push.new.self) left.0 left.1 c.read.new.cursor c.take-in-loop-items.new.self c.take-in-loop-items.result rest (search rules) c.take-in-loop-items.ensures.found c.take-in-loop-items.ensures.back (search (rules, read.0)) left.2 left.3 read.1,
+      let read = item_read g.T.Text.fits g.T.Show.text (y ∷ ys) (vec_items c.loop-items.items) c.loop-items.cursor c.read.new.cursor c.read.result rest c.read.ensures.back left in
+      comma_read g.T.Text.fits g.T.Show.text (y ∷ ys) (vec_items c.loop-items.items) (vec_items c.push.new.self) left.0 left.1 c.read.new.cursor c.take-in-loop-items.new.self c.take-in-loop-items.result rest (search rules) c.take-in-loop-items.ensures.found c.take-in-loop-items.ensures.back (search (rules, read.0)) left.2 left.3 read.1,
 )
 
 pub returns-in_err-expect-2-clause-back : goal.returns-in_err-expect-2-clause-back
 returns-in_err-expect-2-clause-back g c [] rest fits e = absurd (search (rules, c.take.ensures.back rest (c.expect.ensures.back _ e).1))
 returns-in_err-expect-2-clause-back g c (y ∷ ys) rest fits e =
-    let text = g.T.Text.text in
+    let text = g.T.Show.text in
     let begun = still c.expect.new.self c.take.new.self _ c.if-take.false c.take.ensures.step c.take.ensures.onward ∙ (c.expect.ensures.back _ e).1 ∙ append_assoc (joined text (y ∷ ys)) (codes "]") rest in
     let left = c.loop-items.invariant.1 y ys rest fits begun in
     let read = item_read g.T.Text.fits text (y ∷ ys) (vec_items c.loop-items.items) c.loop-items.cursor c.read.new.cursor c.read.result rest c.read.ensures.back left in
@@ -37,7 +37,7 @@ returns-in_err-expect-2-clause-back g c (y ∷ ys) rest fits e =
 pub returns-clause-back : goal.returns-clause-back
 returns-clause-back g c [] rest fits e = absurd (search (rules, c.take.ensures.back rest (c.expect.ensures.back _ e).1))
 returns-clause-back g c (y ∷ ys) rest fits e =
-    let text = g.T.Text.text in
+    let text = g.T.Show.text in
     let begun = still c.expect.new.self c.take.new.self _ c.if-take.false c.take.ensures.step c.take.ensures.onward ∙ (c.expect.ensures.back _ e).1 ∙ append_assoc (joined text (y ∷ ys)) (codes "]") rest in
     let left = c.loop-items.invariant.1 y ys rest fits begun in
     let read = item_read g.T.Text.fits text (y ∷ ys) (vec_items c.loop-items.items) c.loop-items.cursor c.read.new.cursor c.read.result rest c.read.ensures.back left in

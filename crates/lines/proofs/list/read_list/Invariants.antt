@@ -9,7 +9,7 @@ use Rattle.lines.proofs.list.read_list.Given as goal
 abbrev pub invariant-loop-items : goal.invariant-loop-items
 invariant-loop-items g l =
     Onward l.initial.cursor l.cursor
-    × ((y : _) (ys : List _) (rest : List ℕ) → ListFits g.T.Text.fits g.T.Text.text (y ∷ ys) → ahead l.initial.cursor ≡ joined g.T.Text.text (y ∷ ys) ++ (codes "]" ++ rest) → Left g.T.Text.fits g.T.Text.text (y ∷ ys) (vec_items l.items) l.cursor rest)
+    × ((y : _) (ys : List _) (rest : List ℕ) → ListFits g.T.Text.fits (y ∷ ys) → ahead l.initial.cursor ≡ joined g.T.Show.text (y ∷ ys) ++ (codes "]" ++ rest) → Left g.T.Text.fits g.T.Show.text (y ∷ ys) (vec_items l.items) l.cursor rest)
 
 abbrev pub decreases-loop-items : goal.decreases-loop-items
 decreases-loop-items g l = length l.cursor.text.now - l.cursor.at

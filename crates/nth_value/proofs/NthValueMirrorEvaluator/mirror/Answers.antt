@@ -29,4 +29,4 @@ module _ {V : Type 0} (same : V → V → Bool) (e : NthValue V) (f : (z : ℤ) 
   }
 
 pub returns : goal.returns
-returns g c = mirrors g.K.Kind.same c.args.self.now c.turned.ensures.fits c.new.result (c.new.ensures ∙ ap (λ (k : NthValueKind). new_of k c.args.self.now.ignore_nulls) c.turned.ensures.is)
+returns g c = mirrors g.K.Kind.same c.args.self.now c.turned.ensures.fits c.new.result (c.new.ensures.is ∙ ap (λ (k : NthValueKind). new_of k c.args.self.now.ignore_nulls) c.turned.ensures.is)

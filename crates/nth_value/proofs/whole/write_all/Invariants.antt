@@ -3,7 +3,8 @@ use Rattle.column.specs.Cells.{column_cells}
 use Rattle.column.proofs.Writes.{Written}
 use Rattle.present.specs.Present.{at}
 use Rattle.nth_value.specs.Frames.{cell_of}
-use Rattle.nth_value.specs.Cursors.{window_end, Knows, finds}
+use Rattle.column.specs.Windows.{window_end}
+use Rattle.nth_value.specs.Cursors.{Knows, finds}
 use Rattle.nth_value.proofs.whole.write_all.Given as goal
 
 -- the cursor knows what it has to, and finds what the first one finds

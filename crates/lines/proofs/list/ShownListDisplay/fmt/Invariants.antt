@@ -5,4 +5,4 @@ use Rattle.lines.proofs.list.ShownListDisplay.fmt.Given as goal
 
 abbrev pub invariant-loop-item : goal.invariant-loop-item
 invariant-loop-item g l =
-    IsPlainFormatter l.initial.f → HasWritten g.W.Write.write_str_gives l.initial.f (rest_text g.T.Text.text (take l.item-index l.rest)) l.f
+    IsPlainFormatter l.initial.f → HasWritten g.W.Write.write_str_gives l.initial.f (rest_text g.T.Show.text (take l.item-index l.rest)) l.f

@@ -2,7 +2,8 @@ use Rattle.std.proofs.Common.{ℕ, ◌-◌, List, sym, ap, ◌∙◌, subst}
 use Rattle.std.specs.List.{slice_get}
 use Rattle.present.specs.Present.{at, ahead}
 use Rattle.nth_value.specs.declared.cursor.Cursor.{Cursor}
-use Rattle.nth_value.specs.Cursors.{window_end, Knows, finds}
+use Rattle.column.specs.Windows.{window_end}
+use Rattle.nth_value.specs.Cursors.{Knows, finds}
 use Rattle.nth_value.proofs.Cursors.{shown-ahead, known-ahead, told_ahead}
 use Rattle.nth_value.proofs.cursor.Cursor.find.Goals as goal
 

@@ -3,7 +3,7 @@ use Rattle.std.specs.List.{slice_get}
 use Rattle.column.specs.Cells.{view}
 use Rattle.present.specs.Present.{ahead}
 use Rattle.present.proofs.Parts.{up_to}
-use Rattle.nth_value.specs.Cursors.{window_end}
+use Rattle.column.specs.Windows.{window_end}
 use Rattle.nth_value.proofs.Cursors.{ahead_found}
 use Rattle.nth_value.proofs.cursor.Reached.find.Goals as goal
 

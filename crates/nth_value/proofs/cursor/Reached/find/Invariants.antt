@@ -2,7 +2,7 @@ use Rattle.std.proofs.Common.{◌≡◌, ℕ, ◌-◌}
 use Rattle.std.specs.List.{slice_get}
 use Rattle.column.specs.Cells.{view}
 use Rattle.present.specs.Present.{ahead}
-use Rattle.nth_value.specs.Cursors.{window_end}
+use Rattle.column.specs.Windows.{window_end}
 use Rattle.nth_value.proofs.cursor.Reached.find.Given as goal
 
 abbrev pub invariant-loop-row : goal.invariant-loop-row
