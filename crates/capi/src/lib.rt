@@ -30,7 +30,12 @@ pub extern "C" fn bodkinfawn_instant_cells(
 ) -> Told
     ensures { CellsCall plain_coding same_instant function.now default (record { values = values.now; marks = marks.now; frames = frames.now; groups = groups.now }) (record { values = answers.old; marks = answer_marks.old }) (record { values = answers.new; marks = answer_marks.new }) result }
 {
-    let lent = Lent { values, marks, frames, groups };
+    let lent = Lent {
+        values,
+        marks,
+        frames,
+        groups,
+    };
     cells::<Plain<Instant>>(heap, function, default, &lent, answers, answer_marks)
 }
 
@@ -46,7 +51,12 @@ pub extern "C" fn bodkinfawn_instant_numbers(
 ) -> Told
     ensures { NumbersCall plain_coding same_instant function.now (record { values = values.now; marks = marks.now; frames = frames.now; groups = groups.now }) answers.old answers.new result }
 {
-    let lent = Lent { values, marks, frames, groups };
+    let lent = Lent {
+        values,
+        marks,
+        frames,
+        groups,
+    };
     numbers::<Plain<Instant>>(heap, function, &lent, answers)
 }
 
@@ -62,7 +72,12 @@ pub extern "C" fn bodkinfawn_instant_fractions(
 ) -> Told
     ensures { FractionsCall plain_coding same_instant function.now (record { values = values.now; marks = marks.now; frames = frames.now; groups = groups.now }) answers.old answers.new result }
 {
-    let lent = Lent { values, marks, frames, groups };
+    let lent = Lent {
+        values,
+        marks,
+        frames,
+        groups,
+    };
     fractions::<Plain<Instant>>(heap, function, &lent, answers)
 }
 
@@ -93,8 +108,21 @@ pub extern "C" fn bodkinfawn_instant_run_cells(
 ) -> Told
     ensures { RunCellsCall plain_coding function.now default (record { values = values.now; marks = marks.now; calls = calls.now }) (record { outcomes = outcomes.old; answers = record { values = answers.old; marks = answer_marks.old } }, ending.old) (record { outcomes = outcomes.new; answers = record { values = answers.new; marks = answer_marks.new } }, ending.new) result }
 {
-    let script = Script { values, marks, calls };
-    run_cells::<Plain<Instant>>(heap, function, default, &script, outcomes, answers, answer_marks, ending)
+    let script = Script {
+        values,
+        marks,
+        calls,
+    };
+    run_cells::<Plain<Instant>>(
+        heap,
+        function,
+        default,
+        &script,
+        outcomes,
+        answers,
+        answer_marks,
+        ending,
+    )
 }
 
 #[unsafe(no_mangle)]
@@ -110,7 +138,11 @@ pub extern "C" fn bodkinfawn_instant_run_numbers(
 ) -> Told
     ensures { RunNumbersCall plain_coding same_instant function.now (record { values = values.now; marks = marks.now; calls = calls.now }) (record { outcomes = outcomes.old; answers = answers.old }, ending.old) (record { outcomes = outcomes.new; answers = answers.new }, ending.new) result }
 {
-    let script = Script { values, marks, calls };
+    let script = Script {
+        values,
+        marks,
+        calls,
+    };
     run_numbers::<Plain<Instant>>(heap, function, &script, outcomes, answers, ending)
 }
 
@@ -128,7 +160,12 @@ pub extern "C" fn bodkinfawn_pseudonym_cells(
 ) -> Told
     ensures { CellsCall plain_coding same_pseudonym function.now default (record { values = values.now; marks = marks.now; frames = frames.now; groups = groups.now }) (record { values = answers.old; marks = answer_marks.old }) (record { values = answers.new; marks = answer_marks.new }) result }
 {
-    let lent = Lent { values, marks, frames, groups };
+    let lent = Lent {
+        values,
+        marks,
+        frames,
+        groups,
+    };
     cells::<Plain<Pseudonym>>(heap, function, default, &lent, answers, answer_marks)
 }
 
@@ -144,7 +181,12 @@ pub extern "C" fn bodkinfawn_pseudonym_numbers(
 ) -> Told
     ensures { NumbersCall plain_coding same_pseudonym function.now (record { values = values.now; marks = marks.now; frames = frames.now; groups = groups.now }) answers.old answers.new result }
 {
-    let lent = Lent { values, marks, frames, groups };
+    let lent = Lent {
+        values,
+        marks,
+        frames,
+        groups,
+    };
     numbers::<Plain<Pseudonym>>(heap, function, &lent, answers)
 }
 
@@ -160,7 +202,12 @@ pub extern "C" fn bodkinfawn_pseudonym_fractions(
 ) -> Told
     ensures { FractionsCall plain_coding same_pseudonym function.now (record { values = values.now; marks = marks.now; frames = frames.now; groups = groups.now }) answers.old answers.new result }
 {
-    let lent = Lent { values, marks, frames, groups };
+    let lent = Lent {
+        values,
+        marks,
+        frames,
+        groups,
+    };
     fractions::<Plain<Pseudonym>>(heap, function, &lent, answers)
 }
 
@@ -191,8 +238,21 @@ pub extern "C" fn bodkinfawn_pseudonym_run_cells(
 ) -> Told
     ensures { RunCellsCall plain_coding function.now default (record { values = values.now; marks = marks.now; calls = calls.now }) (record { outcomes = outcomes.old; answers = record { values = answers.old; marks = answer_marks.old } }, ending.old) (record { outcomes = outcomes.new; answers = record { values = answers.new; marks = answer_marks.new } }, ending.new) result }
 {
-    let script = Script { values, marks, calls };
-    run_cells::<Plain<Pseudonym>>(heap, function, default, &script, outcomes, answers, answer_marks, ending)
+    let script = Script {
+        values,
+        marks,
+        calls,
+    };
+    run_cells::<Plain<Pseudonym>>(
+        heap,
+        function,
+        default,
+        &script,
+        outcomes,
+        answers,
+        answer_marks,
+        ending,
+    )
 }
 
 #[unsafe(no_mangle)]
@@ -208,7 +268,11 @@ pub extern "C" fn bodkinfawn_pseudonym_run_numbers(
 ) -> Told
     ensures { RunNumbersCall plain_coding same_pseudonym function.now (record { values = values.now; marks = marks.now; calls = calls.now }) (record { outcomes = outcomes.old; answers = answers.old }, ending.old) (record { outcomes = outcomes.new; answers = answers.new }, ending.new) result }
 {
-    let script = Script { values, marks, calls };
+    let script = Script {
+        values,
+        marks,
+        calls,
+    };
     run_numbers::<Plain<Pseudonym>>(heap, function, &script, outcomes, answers, ending)
 }
 
@@ -226,7 +290,12 @@ pub extern "C" fn bodkinfawn_code_cells(
 ) -> Told
     ensures { CellsCall plain_coding same_code function.now default (record { values = values.now; marks = marks.now; frames = frames.now; groups = groups.now }) (record { values = answers.old; marks = answer_marks.old }) (record { values = answers.new; marks = answer_marks.new }) result }
 {
-    let lent = Lent { values, marks, frames, groups };
+    let lent = Lent {
+        values,
+        marks,
+        frames,
+        groups,
+    };
     cells::<Plain<CollegeCode>>(heap, function, default, &lent, answers, answer_marks)
 }
 
@@ -242,7 +311,12 @@ pub extern "C" fn bodkinfawn_code_numbers(
 ) -> Told
     ensures { NumbersCall plain_coding same_code function.now (record { values = values.now; marks = marks.now; frames = frames.now; groups = groups.now }) answers.old answers.new result }
 {
-    let lent = Lent { values, marks, frames, groups };
+    let lent = Lent {
+        values,
+        marks,
+        frames,
+        groups,
+    };
     numbers::<Plain<CollegeCode>>(heap, function, &lent, answers)
 }
 
@@ -258,7 +332,12 @@ pub extern "C" fn bodkinfawn_code_fractions(
 ) -> Told
     ensures { FractionsCall plain_coding same_code function.now (record { values = values.now; marks = marks.now; frames = frames.now; groups = groups.now }) answers.old answers.new result }
 {
-    let lent = Lent { values, marks, frames, groups };
+    let lent = Lent {
+        values,
+        marks,
+        frames,
+        groups,
+    };
     fractions::<Plain<CollegeCode>>(heap, function, &lent, answers)
 }
 
@@ -289,8 +368,21 @@ pub extern "C" fn bodkinfawn_code_run_cells(
 ) -> Told
     ensures { RunCellsCall plain_coding function.now default (record { values = values.now; marks = marks.now; calls = calls.now }) (record { outcomes = outcomes.old; answers = record { values = answers.old; marks = answer_marks.old } }, ending.old) (record { outcomes = outcomes.new; answers = record { values = answers.new; marks = answer_marks.new } }, ending.new) result }
 {
-    let script = Script { values, marks, calls };
-    run_cells::<Plain<CollegeCode>>(heap, function, default, &script, outcomes, answers, answer_marks, ending)
+    let script = Script {
+        values,
+        marks,
+        calls,
+    };
+    run_cells::<Plain<CollegeCode>>(
+        heap,
+        function,
+        default,
+        &script,
+        outcomes,
+        answers,
+        answer_marks,
+        ending,
+    )
 }
 
 #[unsafe(no_mangle)]
@@ -306,7 +398,11 @@ pub extern "C" fn bodkinfawn_code_run_numbers(
 ) -> Told
     ensures { RunNumbersCall plain_coding same_code function.now (record { values = values.now; marks = marks.now; calls = calls.now }) (record { outcomes = outcomes.old; answers = answers.old }, ending.old) (record { outcomes = outcomes.new; answers = answers.new }, ending.new) result }
 {
-    let script = Script { values, marks, calls };
+    let script = Script {
+        values,
+        marks,
+        calls,
+    };
     run_numbers::<Plain<CollegeCode>>(heap, function, &script, outcomes, answers, ending)
 }
 
@@ -324,7 +420,12 @@ pub extern "C" fn bodkinfawn_outcome_cells(
 ) -> Told
     ensures { CellsCall outcome_coding same_outcome function.now default (record { values = values.now; marks = marks.now; frames = frames.now; groups = groups.now }) (record { values = answers.old; marks = answer_marks.old }) (record { values = answers.new; marks = answer_marks.new }) result }
 {
-    let lent = Lent { values, marks, frames, groups };
+    let lent = Lent {
+        values,
+        marks,
+        frames,
+        groups,
+    };
     cells::<Outcomes>(heap, function, default, &lent, answers, answer_marks)
 }
 
@@ -340,7 +441,12 @@ pub extern "C" fn bodkinfawn_outcome_numbers(
 ) -> Told
     ensures { NumbersCall outcome_coding same_outcome function.now (record { values = values.now; marks = marks.now; frames = frames.now; groups = groups.now }) answers.old answers.new result }
 {
-    let lent = Lent { values, marks, frames, groups };
+    let lent = Lent {
+        values,
+        marks,
+        frames,
+        groups,
+    };
     numbers::<Outcomes>(heap, function, &lent, answers)
 }
 
@@ -356,7 +462,12 @@ pub extern "C" fn bodkinfawn_outcome_fractions(
 ) -> Told
     ensures { FractionsCall outcome_coding same_outcome function.now (record { values = values.now; marks = marks.now; frames = frames.now; groups = groups.now }) answers.old answers.new result }
 {
-    let lent = Lent { values, marks, frames, groups };
+    let lent = Lent {
+        values,
+        marks,
+        frames,
+        groups,
+    };
     fractions::<Outcomes>(heap, function, &lent, answers)
 }
 
@@ -387,8 +498,21 @@ pub extern "C" fn bodkinfawn_outcome_run_cells(
 ) -> Told
     ensures { RunCellsCall outcome_coding function.now default (record { values = values.now; marks = marks.now; calls = calls.now }) (record { outcomes = outcomes.old; answers = record { values = answers.old; marks = answer_marks.old } }, ending.old) (record { outcomes = outcomes.new; answers = record { values = answers.new; marks = answer_marks.new } }, ending.new) result }
 {
-    let script = Script { values, marks, calls };
-    run_cells::<Outcomes>(heap, function, default, &script, outcomes, answers, answer_marks, ending)
+    let script = Script {
+        values,
+        marks,
+        calls,
+    };
+    run_cells::<Outcomes>(
+        heap,
+        function,
+        default,
+        &script,
+        outcomes,
+        answers,
+        answer_marks,
+        ending,
+    )
 }
 
 #[unsafe(no_mangle)]
@@ -404,7 +528,11 @@ pub extern "C" fn bodkinfawn_outcome_run_numbers(
 ) -> Told
     ensures { RunNumbersCall outcome_coding same_outcome function.now (record { values = values.now; marks = marks.now; calls = calls.now }) (record { outcomes = outcomes.old; answers = answers.old }, ending.old) (record { outcomes = outcomes.new; answers = answers.new }, ending.new) result }
 {
-    let script = Script { values, marks, calls };
+    let script = Script {
+        values,
+        marks,
+        calls,
+    };
     run_numbers::<Outcomes>(heap, function, &script, outcomes, answers, ending)
 }
 
@@ -422,7 +550,12 @@ pub extern "C" fn bodkinfawn_pair_cells(
 ) -> Told
     ensures { CellsCall plain_coding same_instant_code function.now default (record { values = values.now; marks = marks.now; frames = frames.now; groups = groups.now }) (record { values = answers.old; marks = answer_marks.old }) (record { values = answers.new; marks = answer_marks.new }) result }
 {
-    let lent = Lent { values, marks, frames, groups };
+    let lent = Lent {
+        values,
+        marks,
+        frames,
+        groups,
+    };
     cells::<Plain<InstantCode>>(heap, function, default, &lent, answers, answer_marks)
 }
 
@@ -438,7 +571,12 @@ pub extern "C" fn bodkinfawn_pair_numbers(
 ) -> Told
     ensures { NumbersCall plain_coding same_instant_code function.now (record { values = values.now; marks = marks.now; frames = frames.now; groups = groups.now }) answers.old answers.new result }
 {
-    let lent = Lent { values, marks, frames, groups };
+    let lent = Lent {
+        values,
+        marks,
+        frames,
+        groups,
+    };
     numbers::<Plain<InstantCode>>(heap, function, &lent, answers)
 }
 
@@ -454,7 +592,12 @@ pub extern "C" fn bodkinfawn_pair_fractions(
 ) -> Told
     ensures { FractionsCall plain_coding same_instant_code function.now (record { values = values.now; marks = marks.now; frames = frames.now; groups = groups.now }) answers.old answers.new result }
 {
-    let lent = Lent { values, marks, frames, groups };
+    let lent = Lent {
+        values,
+        marks,
+        frames,
+        groups,
+    };
     fractions::<Plain<InstantCode>>(heap, function, &lent, answers)
 }
 
@@ -485,8 +628,21 @@ pub extern "C" fn bodkinfawn_pair_run_cells(
 ) -> Told
     ensures { RunCellsCall plain_coding function.now default (record { values = values.now; marks = marks.now; calls = calls.now }) (record { outcomes = outcomes.old; answers = record { values = answers.old; marks = answer_marks.old } }, ending.old) (record { outcomes = outcomes.new; answers = record { values = answers.new; marks = answer_marks.new } }, ending.new) result }
 {
-    let script = Script { values, marks, calls };
-    run_cells::<Plain<InstantCode>>(heap, function, default, &script, outcomes, answers, answer_marks, ending)
+    let script = Script {
+        values,
+        marks,
+        calls,
+    };
+    run_cells::<Plain<InstantCode>>(
+        heap,
+        function,
+        default,
+        &script,
+        outcomes,
+        answers,
+        answer_marks,
+        ending,
+    )
 }
 
 #[unsafe(no_mangle)]
@@ -502,6 +658,10 @@ pub extern "C" fn bodkinfawn_pair_run_numbers(
 ) -> Told
     ensures { RunNumbersCall plain_coding same_instant_code function.now (record { values = values.now; marks = marks.now; calls = calls.now }) (record { outcomes = outcomes.old; answers = answers.old }, ending.old) (record { outcomes = outcomes.new; answers = answers.new }, ending.new) result }
 {
-    let script = Script { values, marks, calls };
+    let script = Script {
+        values,
+        marks,
+        calls,
+    };
     run_numbers::<Plain<InstantCode>>(heap, function, &script, outcomes, answers, ending)
 }

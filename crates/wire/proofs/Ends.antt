@@ -19,16 +19,16 @@ module _ {R S : Type 0} (error : Stop → R) (before after : S) (r : R) (good : 
   -- stopped for want of memory, or by the last check
   pub stopped_last : (a : Option Stop) (s : Stop) → (s ≡ Memory) ⊎ (Some s ≡ a) → r ≡ error s → after ≡ before → Ends error a before after r good
   stopped_last a s h e k = ⊎_elim
-    (λ m. inl (e ∙ ap error m, k))
-    (λ q. inr (subst (λ z. EndsBy error z before after r good) q (e, k)))
-    h
+      (λ m. inl (e ∙ ap error m, k))
+      (λ q. inr (subst (λ z. EndsBy error z before after r good) q (e, k)))
+      h
 
   -- or by a check that others follow
   pub stopped_first : (a b : Option Stop) (s : Stop) → (s ≡ Memory) ⊎ (Some s ≡ a) → r ≡ error s → after ≡ before → Ends error (first_of a b) before after r good
   stopped_first a b s h e k = ⊎_elim
-    (λ m. inl (e ∙ ap error m, k))
-    (λ q. inr (subst (λ z. EndsBy error (first_of z b) before after r good) q (e, k)))
-    h
+      (λ m. inl (e ∙ ap error m, k))
+      (λ q. inr (subst (λ z. EndsBy error (first_of z b) before after r good) q (e, k)))
+      h
 
   pub no_memory : (a : Option Stop) → r ≡ error Memory → after ≡ before → Ends error a before after r good
   no_memory a e k = inl (e, k)

@@ -1,5 +1,5 @@
 -- How a call from C ends.
-use Rattle.std.specs.Prelude.{◌≡◌, ◌⊎◌, Some, None, Err, Option, Result}
+use Rattle.std.specs.Prelude.{◌≡◌, ◌⊎◌, Some, None, Err, Option}
 use Rattle.wire.specs.declared.stop.Stop.{Stop}
 use Rattle.wire.specs.declared.stop.Stop.TheVariants.{Memory}
 use Rattle.wire.specs.declared.stop.Told.{Told}

@@ -1,5 +1,5 @@
 -- Functions as C describes them.
-use Rattle.std.specs.Prelude.{ℕ, Bool, List, [], ◌∷◌, position, cond, ◌||◌, ◌==◌, nat_lt, Some, None, Ok, Err, Option, Result}
+use Rattle.std.specs.Prelude.{ℕ, Bool, List, [], ◌∷◌, position, cond, ◌||◌, ◌==◌, nat_lt, Ok, Err, Option, Result}
 use Rattle.std.specs.Bool.{then_some}
 use Rattle.column.specs.declared.fault.Fault.{Fault}
 use Rattle.evaluator.specs.declared.utils.Argument.{Argument}

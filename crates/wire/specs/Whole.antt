@@ -2,7 +2,6 @@
 use Rattle.std.specs.Prelude.{◌≡◌, ℕ, Bool, true, false, cond, List, map, length, slice_set, Float, Some, None, Ok, Err, Option, Result}
 use Rattle.column.specs.declared.fault.Fault.{Fault}
 use Rattle.column.specs.Slots.{written}
-use Rattle.column.specs.declared.column.Column.{Column}
 use Rattle.partition.specs.Peers.{Group, peers}
 use Rattle.column.specs.Cells.{cells}
 use Rattle.column.specs.Refusal.{or_else, column_refusal}

@@ -198,7 +198,14 @@ fn try_run_cells<C: Crossing>(
     ensures { Ends {S = RunLists (LentSlots C.Numbers)} Err (run_stop C.Crossing.coding function.now default (scripted script.now) (length outcomes.old) (lent_count (record { values = values.entry.now; marks = marks.old }))) (record { outcomes = outcomes.old; answers = record { values = values.entry.now; marks = marks.old } }) (record { outcomes = outcomes.new; answers = record { values = values.exit.now; marks = marks.new } }) result ((last : Noted) × (result ≡ Ok last) × ((calls : List (Call C.Value)) × CallsOf C.Crossing.coding (scripted script.now) calls × MadeRan (choosing function.now (C.Crossing.coding.decoded default)) (function.now.from_zero == 1) (put_lent C.Crossing.coding.encoded) calls (record { outcomes = outcomes.old; answers = record { values = values.entry.now; marks = marks.old } }) (record { outcomes = outcomes.new; answers = record { values = values.exit.now; marks = marks.new } }) last)) }
 {
     let mut room = Vec::new(heap);
-    let read = read_list::<C>(heap, function, CELLS, script.values, script.marks, &mut room)?;
+    let read = read_list::<C>(
+        heap,
+        function,
+        CELLS,
+        script.values,
+        script.marks,
+        &mut room,
+    )?;
     let calls = read.shown().calls(heap, script.calls)?;
     let default = read_default::<C>(default)?;
     let chosen = function.choose(default)?;
@@ -214,11 +221,7 @@ fn try_run_cells<C: Crossing>(
 }
 
 // What is told of a run; what finishing it ended in is written where that is asked for.
-fn write_ending(
-    function: &Function,
-    ended: Result<Noted, Stop>,
-    ending: &mut Noted,
-) -> Told
+fn write_ending(function: &Function, ended: Result<Noted, Stop>, ending: &mut Noted) -> Told
     ensures { MatchResult ended
         (λ last. (result ≡ told (Ok 0)) × (ending.new ≡ ending_left function.now last ending.old))
         (λ s. (result ≡ told_stop s) × (ending.new ≡ ending.old)) }
@@ -297,7 +300,14 @@ fn try_run_numbers<C: Crossing>(
     ensures { Ends {S = RunLists (List ℕ)} Err (first_of (script_stop C.Crossing.coding number_family function.now (scripted script.now)) (refused (room_refusal (length (calls_in script.now.calls.now)) (length outcomes.old) (length answers.old)))) (record { outcomes = outcomes.old; answers = answers.old }) (record { outcomes = outcomes.new; answers = answers.new }) result ((last : Noted) × (result ≡ Ok last) × ((calls : List (Call C.Value)) × CallsOf C.Crossing.coding (scripted script.now) calls × RankingRan C.Value.Kind.same (ranking_of function.now) (function.now.from_zero == 1) calls (record { outcomes = outcomes.old; answers = answers.old }) (record { outcomes = outcomes.new; answers = answers.new }) last)) }
 {
     let mut room = Vec::new(heap);
-    let read = read_list::<C>(heap, function, NUMBERS, script.values, script.marks, &mut room)?;
+    let read = read_list::<C>(
+        heap,
+        function,
+        NUMBERS,
+        script.values,
+        script.marks,
+        &mut room,
+    )?;
     let calls = read.shown().calls(heap, script.calls)?;
     play_ranking(
         heap,

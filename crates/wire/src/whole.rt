@@ -196,7 +196,14 @@ fn try_fractions<C: Crossing>(
     ensures { Ends Err (first_of (read_stop C.Crossing.coding fraction_family function.now lent.now.values.now lent.now.marks.now) (refused (whole_refusal C.Value.Kind.same false true (handed_input C.Crossing.coding (handed lent.now)) (length answers.old)))) answers.old answers.new result ((result ≡ Ok tt) × (answers.new ≡ written (λ s i a. slice_set s i a) (fractional_answers C.Value.Kind.same (fractional_of function.now) (handed_input C.Crossing.coding (handed lent.now))) answers.old (row_count (handed_input C.Crossing.coding (handed lent.now))))) }
 {
     let mut room = Vec::new(heap);
-    let read = read_list::<C>(heap, function, FRACTIONS, lent.values, lent.marks, &mut room)?;
+    let read = read_list::<C>(
+        heap,
+        function,
+        FRACTIONS,
+        lent.values,
+        lent.marks,
+        &mut room,
+    )?;
     let spans = lent.spans(heap)?;
     write_fractions(function.fractional(), &read.rows(&spans), answers)?;
     Ok(())

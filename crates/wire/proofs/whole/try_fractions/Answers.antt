@@ -1,6 +1,5 @@
-use Rattle.std.proofs.Common.{◌≡◌, length, true, false, slice_set, refl, rules, Result, Err, Option, None}
-use Rattle.partition.specs.Table.{Input, input, row_count, whole_refusal}
-use Rattle.wire.specs.declared.stop.Stop.{Stop}
+use Rattle.std.proofs.Common.{◌≡◌, length, true, false, slice_set, refl, rules, Err}
+use Rattle.partition.specs.Table.{input, row_count, whole_refusal}
 use Rattle.wire.specs.declared.stop.Stop.TheVariants.{Refused}
 use Rattle.wire.specs.Whole.{handed, handed_input, fractional_answers}
 use Rattle.wire.proofs.Ends.{refused_last}
