@@ -1,6 +1,11 @@
 // The C entry points: for each kind of value a call on whole partitions for each type of answer, one for peer groups, and one for runs.
-// Each calls the function of `wire` of its name, and states its clauses.
+// Each hands its lists to the function of `wire` of its name, and has the same contract.
 #![tactic(auto)]
+
+ghost use Rattle.column.specs.Kinds.{same_instant, same_pseudonym, same_code, same_outcome};
+ghost use Rattle.wire.specs.Kinds.{plain_coding, outcome_coding, same_instant_code};
+ghost use Rattle.wire.specs.Whole.{CellsCall, NumbersCall, FractionsCall, GroupsCall};
+ghost use Rattle.wire.specs.Runs.{RunCellsCall, RunNumbersCall};
 
 use column::kind::{CollegeCode, Instant, Pseudonym};
 use std::alloc::Global;
@@ -22,14 +27,16 @@ pub extern "C" fn bodkinfawn_instant_cells(
     groups: &[Span],
     answers: &mut [Instant],
     answer_marks: &mut [u8],
-) -> Told {
+) -> Told
+    ensures { CellsCall plain_coding same_instant function.now default (record { values = values.now; marks = marks.now; frames = frames.now; groups = groups.now }) (record { values = answers.old; marks = answer_marks.old }) (record { values = answers.new; marks = answer_marks.new }) result }
+{
     let lent = Lent {
         values,
         marks,
         frames,
         groups,
     };
-    Told::of_unit(cells::<Plain<Instant>>(heap, function, default, &lent, answers, answer_marks))
+    cells::<Plain<Instant>>(heap, function, default, &lent, answers, answer_marks)
 }
 
 #[unsafe(no_mangle)]
@@ -41,14 +48,16 @@ pub extern "C" fn bodkinfawn_instant_numbers(
     frames: &[Span],
     groups: &[Span],
     answers: &mut [u64],
-) -> Told {
+) -> Told
+    ensures { NumbersCall plain_coding same_instant function.now (record { values = values.now; marks = marks.now; frames = frames.now; groups = groups.now }) answers.old answers.new result }
+{
     let lent = Lent {
         values,
         marks,
         frames,
         groups,
     };
-    Told::of_unit(numbers::<Plain<Instant>>(heap, function, &lent, answers))
+    numbers::<Plain<Instant>>(heap, function, &lent, answers)
 }
 
 #[unsafe(no_mangle)]
@@ -60,14 +69,16 @@ pub extern "C" fn bodkinfawn_instant_fractions(
     frames: &[Span],
     groups: &[Span],
     answers: &mut [f64],
-) -> Told {
+) -> Told
+    ensures { FractionsCall plain_coding same_instant function.now (record { values = values.now; marks = marks.now; frames = frames.now; groups = groups.now }) answers.old answers.new result }
+{
     let lent = Lent {
         values,
         marks,
         frames,
         groups,
     };
-    Told::of_unit(fractions::<Plain<Instant>>(heap, function, &lent, answers))
+    fractions::<Plain<Instant>>(heap, function, &lent, answers)
 }
 
 #[unsafe(no_mangle)]
@@ -76,8 +87,10 @@ pub extern "C" fn bodkinfawn_instant_groups(
     values: &[Instant],
     marks: &[u8],
     spans: &mut [Span],
-) -> Told {
-    Told::of(groups::<Plain<Instant>>(heap, values, marks, spans))
+) -> Told
+    ensures { GroupsCall plain_coding same_instant values.now marks.now spans.old spans.new result }
+{
+    groups::<Plain<Instant>>(heap, values, marks, spans)
 }
 
 #[unsafe(no_mangle)]
@@ -92,13 +105,15 @@ pub extern "C" fn bodkinfawn_instant_run_cells(
     answers: &mut [Instant],
     answer_marks: &mut [u8],
     ending: &mut Noted,
-) -> Told {
+) -> Told
+    ensures { RunCellsCall plain_coding function.now default (record { values = values.now; marks = marks.now; calls = calls.now }) (record { outcomes = outcomes.old; answers = record { values = answers.old; marks = answer_marks.old } }, ending.old) (record { outcomes = outcomes.new; answers = record { values = answers.new; marks = answer_marks.new } }, ending.new) result }
+{
     let script = Script {
         values,
         marks,
         calls,
     };
-    Told::of_unit(run_cells::<Plain<Instant>>(
+    run_cells::<Plain<Instant>>(
         heap,
         function,
         default,
@@ -107,7 +122,7 @@ pub extern "C" fn bodkinfawn_instant_run_cells(
         answers,
         answer_marks,
         ending,
-    ))
+    )
 }
 
 #[unsafe(no_mangle)]
@@ -120,13 +135,15 @@ pub extern "C" fn bodkinfawn_instant_run_numbers(
     outcomes: &mut [Noted],
     answers: &mut [u64],
     ending: &mut Noted,
-) -> Told {
+) -> Told
+    ensures { RunNumbersCall plain_coding same_instant function.now (record { values = values.now; marks = marks.now; calls = calls.now }) (record { outcomes = outcomes.old; answers = answers.old }, ending.old) (record { outcomes = outcomes.new; answers = answers.new }, ending.new) result }
+{
     let script = Script {
         values,
         marks,
         calls,
     };
-    Told::of_unit(run_numbers::<Plain<Instant>>(heap, function, &script, outcomes, answers, ending))
+    run_numbers::<Plain<Instant>>(heap, function, &script, outcomes, answers, ending)
 }
 
 #[unsafe(no_mangle)]
@@ -140,14 +157,16 @@ pub extern "C" fn bodkinfawn_pseudonym_cells(
     groups: &[Span],
     answers: &mut [Pseudonym],
     answer_marks: &mut [u8],
-) -> Told {
+) -> Told
+    ensures { CellsCall plain_coding same_pseudonym function.now default (record { values = values.now; marks = marks.now; frames = frames.now; groups = groups.now }) (record { values = answers.old; marks = answer_marks.old }) (record { values = answers.new; marks = answer_marks.new }) result }
+{
     let lent = Lent {
         values,
         marks,
         frames,
         groups,
     };
-    Told::of_unit(cells::<Plain<Pseudonym>>(heap, function, default, &lent, answers, answer_marks))
+    cells::<Plain<Pseudonym>>(heap, function, default, &lent, answers, answer_marks)
 }
 
 #[unsafe(no_mangle)]
@@ -159,14 +178,16 @@ pub extern "C" fn bodkinfawn_pseudonym_numbers(
     frames: &[Span],
     groups: &[Span],
     answers: &mut [u64],
-) -> Told {
+) -> Told
+    ensures { NumbersCall plain_coding same_pseudonym function.now (record { values = values.now; marks = marks.now; frames = frames.now; groups = groups.now }) answers.old answers.new result }
+{
     let lent = Lent {
         values,
         marks,
         frames,
         groups,
     };
-    Told::of_unit(numbers::<Plain<Pseudonym>>(heap, function, &lent, answers))
+    numbers::<Plain<Pseudonym>>(heap, function, &lent, answers)
 }
 
 #[unsafe(no_mangle)]
@@ -178,14 +199,16 @@ pub extern "C" fn bodkinfawn_pseudonym_fractions(
     frames: &[Span],
     groups: &[Span],
     answers: &mut [f64],
-) -> Told {
+) -> Told
+    ensures { FractionsCall plain_coding same_pseudonym function.now (record { values = values.now; marks = marks.now; frames = frames.now; groups = groups.now }) answers.old answers.new result }
+{
     let lent = Lent {
         values,
         marks,
         frames,
         groups,
     };
-    Told::of_unit(fractions::<Plain<Pseudonym>>(heap, function, &lent, answers))
+    fractions::<Plain<Pseudonym>>(heap, function, &lent, answers)
 }
 
 #[unsafe(no_mangle)]
@@ -194,8 +217,10 @@ pub extern "C" fn bodkinfawn_pseudonym_groups(
     values: &[Pseudonym],
     marks: &[u8],
     spans: &mut [Span],
-) -> Told {
-    Told::of(groups::<Plain<Pseudonym>>(heap, values, marks, spans))
+) -> Told
+    ensures { GroupsCall plain_coding same_pseudonym values.now marks.now spans.old spans.new result }
+{
+    groups::<Plain<Pseudonym>>(heap, values, marks, spans)
 }
 
 #[unsafe(no_mangle)]
@@ -210,13 +235,15 @@ pub extern "C" fn bodkinfawn_pseudonym_run_cells(
     answers: &mut [Pseudonym],
     answer_marks: &mut [u8],
     ending: &mut Noted,
-) -> Told {
+) -> Told
+    ensures { RunCellsCall plain_coding function.now default (record { values = values.now; marks = marks.now; calls = calls.now }) (record { outcomes = outcomes.old; answers = record { values = answers.old; marks = answer_marks.old } }, ending.old) (record { outcomes = outcomes.new; answers = record { values = answers.new; marks = answer_marks.new } }, ending.new) result }
+{
     let script = Script {
         values,
         marks,
         calls,
     };
-    Told::of_unit(run_cells::<Plain<Pseudonym>>(
+    run_cells::<Plain<Pseudonym>>(
         heap,
         function,
         default,
@@ -225,7 +252,7 @@ pub extern "C" fn bodkinfawn_pseudonym_run_cells(
         answers,
         answer_marks,
         ending,
-    ))
+    )
 }
 
 #[unsafe(no_mangle)]
@@ -238,15 +265,15 @@ pub extern "C" fn bodkinfawn_pseudonym_run_numbers(
     outcomes: &mut [Noted],
     answers: &mut [u64],
     ending: &mut Noted,
-) -> Told {
+) -> Told
+    ensures { RunNumbersCall plain_coding same_pseudonym function.now (record { values = values.now; marks = marks.now; calls = calls.now }) (record { outcomes = outcomes.old; answers = answers.old }, ending.old) (record { outcomes = outcomes.new; answers = answers.new }, ending.new) result }
+{
     let script = Script {
         values,
         marks,
         calls,
     };
-    Told::of_unit(run_numbers::<Plain<Pseudonym>>(
-        heap, function, &script, outcomes, answers, ending,
-    ))
+    run_numbers::<Plain<Pseudonym>>(heap, function, &script, outcomes, answers, ending)
 }
 
 #[unsafe(no_mangle)]
@@ -260,21 +287,16 @@ pub extern "C" fn bodkinfawn_code_cells(
     groups: &[Span],
     answers: &mut [CollegeCode],
     answer_marks: &mut [u8],
-) -> Told {
+) -> Told
+    ensures { CellsCall plain_coding same_code function.now default (record { values = values.now; marks = marks.now; frames = frames.now; groups = groups.now }) (record { values = answers.old; marks = answer_marks.old }) (record { values = answers.new; marks = answer_marks.new }) result }
+{
     let lent = Lent {
         values,
         marks,
         frames,
         groups,
     };
-    Told::of_unit(cells::<Plain<CollegeCode>>(
-        heap,
-        function,
-        default,
-        &lent,
-        answers,
-        answer_marks,
-    ))
+    cells::<Plain<CollegeCode>>(heap, function, default, &lent, answers, answer_marks)
 }
 
 #[unsafe(no_mangle)]
@@ -286,14 +308,16 @@ pub extern "C" fn bodkinfawn_code_numbers(
     frames: &[Span],
     groups: &[Span],
     answers: &mut [u64],
-) -> Told {
+) -> Told
+    ensures { NumbersCall plain_coding same_code function.now (record { values = values.now; marks = marks.now; frames = frames.now; groups = groups.now }) answers.old answers.new result }
+{
     let lent = Lent {
         values,
         marks,
         frames,
         groups,
     };
-    Told::of_unit(numbers::<Plain<CollegeCode>>(heap, function, &lent, answers))
+    numbers::<Plain<CollegeCode>>(heap, function, &lent, answers)
 }
 
 #[unsafe(no_mangle)]
@@ -305,14 +329,16 @@ pub extern "C" fn bodkinfawn_code_fractions(
     frames: &[Span],
     groups: &[Span],
     answers: &mut [f64],
-) -> Told {
+) -> Told
+    ensures { FractionsCall plain_coding same_code function.now (record { values = values.now; marks = marks.now; frames = frames.now; groups = groups.now }) answers.old answers.new result }
+{
     let lent = Lent {
         values,
         marks,
         frames,
         groups,
     };
-    Told::of_unit(fractions::<Plain<CollegeCode>>(heap, function, &lent, answers))
+    fractions::<Plain<CollegeCode>>(heap, function, &lent, answers)
 }
 
 #[unsafe(no_mangle)]
@@ -321,8 +347,10 @@ pub extern "C" fn bodkinfawn_code_groups(
     values: &[CollegeCode],
     marks: &[u8],
     spans: &mut [Span],
-) -> Told {
-    Told::of(groups::<Plain<CollegeCode>>(heap, values, marks, spans))
+) -> Told
+    ensures { GroupsCall plain_coding same_code values.now marks.now spans.old spans.new result }
+{
+    groups::<Plain<CollegeCode>>(heap, values, marks, spans)
 }
 
 #[unsafe(no_mangle)]
@@ -337,13 +365,15 @@ pub extern "C" fn bodkinfawn_code_run_cells(
     answers: &mut [CollegeCode],
     answer_marks: &mut [u8],
     ending: &mut Noted,
-) -> Told {
+) -> Told
+    ensures { RunCellsCall plain_coding function.now default (record { values = values.now; marks = marks.now; calls = calls.now }) (record { outcomes = outcomes.old; answers = record { values = answers.old; marks = answer_marks.old } }, ending.old) (record { outcomes = outcomes.new; answers = record { values = answers.new; marks = answer_marks.new } }, ending.new) result }
+{
     let script = Script {
         values,
         marks,
         calls,
     };
-    Told::of_unit(run_cells::<Plain<CollegeCode>>(
+    run_cells::<Plain<CollegeCode>>(
         heap,
         function,
         default,
@@ -352,7 +382,7 @@ pub extern "C" fn bodkinfawn_code_run_cells(
         answers,
         answer_marks,
         ending,
-    ))
+    )
 }
 
 #[unsafe(no_mangle)]
@@ -365,15 +395,15 @@ pub extern "C" fn bodkinfawn_code_run_numbers(
     outcomes: &mut [Noted],
     answers: &mut [u64],
     ending: &mut Noted,
-) -> Told {
+) -> Told
+    ensures { RunNumbersCall plain_coding same_code function.now (record { values = values.now; marks = marks.now; calls = calls.now }) (record { outcomes = outcomes.old; answers = answers.old }, ending.old) (record { outcomes = outcomes.new; answers = answers.new }, ending.new) result }
+{
     let script = Script {
         values,
         marks,
         calls,
     };
-    Told::of_unit(run_numbers::<Plain<CollegeCode>>(
-        heap, function, &script, outcomes, answers, ending,
-    ))
+    run_numbers::<Plain<CollegeCode>>(heap, function, &script, outcomes, answers, ending)
 }
 
 #[unsafe(no_mangle)]
@@ -387,14 +417,16 @@ pub extern "C" fn bodkinfawn_outcome_cells(
     groups: &[Span],
     answers: &mut [OutcomeNumbers],
     answer_marks: &mut [u8],
-) -> Told {
+) -> Told
+    ensures { CellsCall outcome_coding same_outcome function.now default (record { values = values.now; marks = marks.now; frames = frames.now; groups = groups.now }) (record { values = answers.old; marks = answer_marks.old }) (record { values = answers.new; marks = answer_marks.new }) result }
+{
     let lent = Lent {
         values,
         marks,
         frames,
         groups,
     };
-    Told::of_unit(cells::<Outcomes>(heap, function, default, &lent, answers, answer_marks))
+    cells::<Outcomes>(heap, function, default, &lent, answers, answer_marks)
 }
 
 #[unsafe(no_mangle)]
@@ -406,14 +438,16 @@ pub extern "C" fn bodkinfawn_outcome_numbers(
     frames: &[Span],
     groups: &[Span],
     answers: &mut [u64],
-) -> Told {
+) -> Told
+    ensures { NumbersCall outcome_coding same_outcome function.now (record { values = values.now; marks = marks.now; frames = frames.now; groups = groups.now }) answers.old answers.new result }
+{
     let lent = Lent {
         values,
         marks,
         frames,
         groups,
     };
-    Told::of_unit(numbers::<Outcomes>(heap, function, &lent, answers))
+    numbers::<Outcomes>(heap, function, &lent, answers)
 }
 
 #[unsafe(no_mangle)]
@@ -425,14 +459,16 @@ pub extern "C" fn bodkinfawn_outcome_fractions(
     frames: &[Span],
     groups: &[Span],
     answers: &mut [f64],
-) -> Told {
+) -> Told
+    ensures { FractionsCall outcome_coding same_outcome function.now (record { values = values.now; marks = marks.now; frames = frames.now; groups = groups.now }) answers.old answers.new result }
+{
     let lent = Lent {
         values,
         marks,
         frames,
         groups,
     };
-    Told::of_unit(fractions::<Outcomes>(heap, function, &lent, answers))
+    fractions::<Outcomes>(heap, function, &lent, answers)
 }
 
 #[unsafe(no_mangle)]
@@ -441,8 +477,10 @@ pub extern "C" fn bodkinfawn_outcome_groups(
     values: &[OutcomeNumbers],
     marks: &[u8],
     spans: &mut [Span],
-) -> Told {
-    Told::of(groups::<Outcomes>(heap, values, marks, spans))
+) -> Told
+    ensures { GroupsCall outcome_coding same_outcome values.now marks.now spans.old spans.new result }
+{
+    groups::<Outcomes>(heap, values, marks, spans)
 }
 
 #[unsafe(no_mangle)]
@@ -457,13 +495,15 @@ pub extern "C" fn bodkinfawn_outcome_run_cells(
     answers: &mut [OutcomeNumbers],
     answer_marks: &mut [u8],
     ending: &mut Noted,
-) -> Told {
+) -> Told
+    ensures { RunCellsCall outcome_coding function.now default (record { values = values.now; marks = marks.now; calls = calls.now }) (record { outcomes = outcomes.old; answers = record { values = answers.old; marks = answer_marks.old } }, ending.old) (record { outcomes = outcomes.new; answers = record { values = answers.new; marks = answer_marks.new } }, ending.new) result }
+{
     let script = Script {
         values,
         marks,
         calls,
     };
-    Told::of_unit(run_cells::<Outcomes>(
+    run_cells::<Outcomes>(
         heap,
         function,
         default,
@@ -472,7 +512,7 @@ pub extern "C" fn bodkinfawn_outcome_run_cells(
         answers,
         answer_marks,
         ending,
-    ))
+    )
 }
 
 #[unsafe(no_mangle)]
@@ -485,13 +525,15 @@ pub extern "C" fn bodkinfawn_outcome_run_numbers(
     outcomes: &mut [Noted],
     answers: &mut [u64],
     ending: &mut Noted,
-) -> Told {
+) -> Told
+    ensures { RunNumbersCall outcome_coding same_outcome function.now (record { values = values.now; marks = marks.now; calls = calls.now }) (record { outcomes = outcomes.old; answers = answers.old }, ending.old) (record { outcomes = outcomes.new; answers = answers.new }, ending.new) result }
+{
     let script = Script {
         values,
         marks,
         calls,
     };
-    Told::of_unit(run_numbers::<Outcomes>(heap, function, &script, outcomes, answers, ending))
+    run_numbers::<Outcomes>(heap, function, &script, outcomes, answers, ending)
 }
 
 #[unsafe(no_mangle)]
@@ -505,21 +547,16 @@ pub extern "C" fn bodkinfawn_pair_cells(
     groups: &[Span],
     answers: &mut [InstantCode],
     answer_marks: &mut [u8],
-) -> Told {
+) -> Told
+    ensures { CellsCall plain_coding same_instant_code function.now default (record { values = values.now; marks = marks.now; frames = frames.now; groups = groups.now }) (record { values = answers.old; marks = answer_marks.old }) (record { values = answers.new; marks = answer_marks.new }) result }
+{
     let lent = Lent {
         values,
         marks,
         frames,
         groups,
     };
-    Told::of_unit(cells::<Plain<InstantCode>>(
-        heap,
-        function,
-        default,
-        &lent,
-        answers,
-        answer_marks,
-    ))
+    cells::<Plain<InstantCode>>(heap, function, default, &lent, answers, answer_marks)
 }
 
 #[unsafe(no_mangle)]
@@ -531,14 +568,16 @@ pub extern "C" fn bodkinfawn_pair_numbers(
     frames: &[Span],
     groups: &[Span],
     answers: &mut [u64],
-) -> Told {
+) -> Told
+    ensures { NumbersCall plain_coding same_instant_code function.now (record { values = values.now; marks = marks.now; frames = frames.now; groups = groups.now }) answers.old answers.new result }
+{
     let lent = Lent {
         values,
         marks,
         frames,
         groups,
     };
-    Told::of_unit(numbers::<Plain<InstantCode>>(heap, function, &lent, answers))
+    numbers::<Plain<InstantCode>>(heap, function, &lent, answers)
 }
 
 #[unsafe(no_mangle)]
@@ -550,14 +589,16 @@ pub extern "C" fn bodkinfawn_pair_fractions(
     frames: &[Span],
     groups: &[Span],
     answers: &mut [f64],
-) -> Told {
+) -> Told
+    ensures { FractionsCall plain_coding same_instant_code function.now (record { values = values.now; marks = marks.now; frames = frames.now; groups = groups.now }) answers.old answers.new result }
+{
     let lent = Lent {
         values,
         marks,
         frames,
         groups,
     };
-    Told::of_unit(fractions::<Plain<InstantCode>>(heap, function, &lent, answers))
+    fractions::<Plain<InstantCode>>(heap, function, &lent, answers)
 }
 
 #[unsafe(no_mangle)]
@@ -566,8 +607,10 @@ pub extern "C" fn bodkinfawn_pair_groups(
     values: &[InstantCode],
     marks: &[u8],
     spans: &mut [Span],
-) -> Told {
-    Told::of(groups::<Plain<InstantCode>>(heap, values, marks, spans))
+) -> Told
+    ensures { GroupsCall plain_coding same_instant_code values.now marks.now spans.old spans.new result }
+{
+    groups::<Plain<InstantCode>>(heap, values, marks, spans)
 }
 
 #[unsafe(no_mangle)]
@@ -582,13 +625,15 @@ pub extern "C" fn bodkinfawn_pair_run_cells(
     answers: &mut [InstantCode],
     answer_marks: &mut [u8],
     ending: &mut Noted,
-) -> Told {
+) -> Told
+    ensures { RunCellsCall plain_coding function.now default (record { values = values.now; marks = marks.now; calls = calls.now }) (record { outcomes = outcomes.old; answers = record { values = answers.old; marks = answer_marks.old } }, ending.old) (record { outcomes = outcomes.new; answers = record { values = answers.new; marks = answer_marks.new } }, ending.new) result }
+{
     let script = Script {
         values,
         marks,
         calls,
     };
-    Told::of_unit(run_cells::<Plain<InstantCode>>(
+    run_cells::<Plain<InstantCode>>(
         heap,
         function,
         default,
@@ -597,7 +642,7 @@ pub extern "C" fn bodkinfawn_pair_run_cells(
         answers,
         answer_marks,
         ending,
-    ))
+    )
 }
 
 #[unsafe(no_mangle)]
@@ -610,13 +655,13 @@ pub extern "C" fn bodkinfawn_pair_run_numbers(
     outcomes: &mut [Noted],
     answers: &mut [u64],
     ending: &mut Noted,
-) -> Told {
+) -> Told
+    ensures { RunNumbersCall plain_coding same_instant_code function.now (record { values = values.now; marks = marks.now; calls = calls.now }) (record { outcomes = outcomes.old; answers = answers.old }, ending.old) (record { outcomes = outcomes.new; answers = answers.new }, ending.new) result }
+{
     let script = Script {
         values,
         marks,
         calls,
     };
-    Told::of_unit(run_numbers::<Plain<InstantCode>>(
-        heap, function, &script, outcomes, answers, ending,
-    ))
+    run_numbers::<Plain<InstantCode>>(heap, function, &script, outcomes, answers, ending)
 }

@@ -1,12 +1,11 @@
 -- Reading a list of calls, one by one.
-use Rattle.std.proofs.Common.{◌≡◌, ℕ, suc, ◌+◌, ◌*◌, ◌/◌, ◌%◌, ◌==◌, ◌<◌, ◌≤◌, cond, Bool, true, false, List, [], ◌∷◌, ◌++◌, length, drop, get_or, Option, Some, None, refl, ap, ◌∙◌, sym, subst, add-one, arith, length-append, ⊎_elim, ◌≢◌}
+use Rattle.std.proofs.Common.{◌≡◌, ℕ, ◌+◌, ◌*◌, ◌/◌, ◌%◌, ◌==◌, ◌<◌, ◌≤◌, cond, Bool, true, false, List, [], ◌∷◌, ◌++◌, length, drop, get_or, Option, Some, None, refl, ap, ◌∙◌, sym, subst, add-one, arith, length-append, ⊎_elim, ◌≢◌}
 use Rattle.std.proofs.Math.Seq.{drop-cons}
 use Rattle.std.proofs.Math.ListN.{drop_of_length-le}
 use Rattle.std.proofs.lemmas.Bool.{cases_eq}
 use Rattle.std.proofs.Math.Seq.{get_or-append_seam}
 use Rattle.std.proofs.lemmas.List.{get_or_append_left}
 use Rattle.replay.specs.declared.calls.Call.{Call}
-use Rattle.wire.specs.declared.stop.Stop.{Stop}
 use Rattle.wire.specs.declared.stop.Stop.TheVariants as stop
 use Rattle.wire.specs.Stops.{stopped}
 use Rattle.wire.specs.Calls.{rest_flaw, call_flaw, flaw_at, flaw_from, Stands, AllStand}

@@ -1,7 +1,5 @@
 -- Writing a list to the front of another, one by one.
-use Rattle.std.proofs.Common.{◌≡◌, ℕ, zero, suc, ◌+◌, ◌<◌, ◌≤◌, List, [], ◌∷◌, ◌++◌, length, take, drop, map, get_or, set, refl, ap, ◌∙◌, sym, arith, add-one}
-use Rattle.std.proofs.lemmas.List.{take_all, length-map}
-use Rattle.wire.specs.Lists.{over}
+use Rattle.std.proofs.Common.{◌≡◌, ℕ, zero, suc, ◌+◌, ◌<◌, ◌≤◌, List, [], ◌∷◌, ◌++◌, length, take, drop, map, get_or, set, ap, arith, add-one}
 
 -- k of the items are written
 abbrev pub partly : {A B : Type 0} → (A → B) → List A → ℕ → List B → List B

@@ -1,5 +1,5 @@
 -- Functions as C describes them.
-use Rattle.std.specs.Prelude.{ℕ, Bool, List, [], ◌∷◌, position, cond, ◌||◌, ◌==◌, nat_lt, Some, None, Ok, Err, Option, Result}
+use Rattle.std.specs.Prelude.{ℕ, Bool, List, [], ◌∷◌, position, cond, ◌||◌, ◌==◌, nat_lt, Ok, Err, Option, Result}
 use Rattle.std.specs.Bool.{then_some}
 use Rattle.column.specs.declared.fault.Fault.{Fault}
 use Rattle.evaluator.specs.declared.utils.Argument.{Argument}
@@ -15,6 +15,11 @@ use Rattle.wire.specs.declared.function.Function.{Function}
 use Rattle.wire.specs.declared.function.Family.{Family}
 use Rattle.wire.specs.declared.function.Chosen.{Chosen}
 use Rattle.wire.specs.declared.function.Chosen.TheVariants.{Shift, Nth}
+use Rattle.rank.specs.declared.rank.RankType.TheVariants.{Basic, Dense}
+use Rattle.wire.specs.declared.function.Ranking.{Ranking}
+use Rattle.wire.specs.declared.function.Ranking.TheVariants.{Rank, RowNumber}
+use Rattle.wire.specs.declared.function.Fractional.{Fractional}
+use Rattle.wire.specs.declared.function.Fractional.TheVariants.{PercentRank, CumeDist}
 
 -- which fields stand for nothing in a family
 abbrev pub field_flaws : Family → Function → List Bool
@@ -66,3 +71,11 @@ mirrored_if mirrored (Err f) = Err f
 -- the evaluator of a function, or the refusal of its argument
 abbrev pub choosing : {V : Type 0} → Function → V → Result (Chosen V) Fault
 choosing f default = mirrored_if (f.mirrored == 1) (plain f default)
+
+-- the function of numbers by its name
+abbrev pub ranking_of : Function → Ranking
+ranking_of f = cond (f.name == 5) (Rank Basic) (cond (f.name == 6) (Rank Dense) RowNumber)
+
+-- the function of fractions by its name
+abbrev pub fractional_of : Function → Fractional
+fractional_of f = cond (f.name == 8) PercentRank CumeDist

@@ -1,5 +1,5 @@
 -- Login outcomes as numbers.
-use Rattle.std.specs.Prelude.{ℕ, Bool, List, map, position, cond, not, ◌&&◌, ◌||◌, ◌==◌, nat_lt, Option}
+use Rattle.std.specs.Prelude.{Bool, cond, not, ◌&&◌, ◌||◌, ◌==◌, nat_lt}
 use Rattle.column.specs.declared.kind.LoginOutcome.{LoginOutcome}
 use Rattle.column.specs.declared.kind.LoginOutcome.TheVariants.{Granted, Refused, TimedOut}
 use Rattle.wire.specs.declared.kinds.OutcomeNumbers.{OutcomeNumbers}

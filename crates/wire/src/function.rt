@@ -1,7 +1,7 @@
 // The function of a call, as C describes it.
-ghost use Rattle.std.specs.Prelude.{◌≡◌};
+ghost use Rattle.std.specs.Prelude.{◌≡◌, ◌==◌};
 ghost use Rattle.wire.specs.Stops.{gives, stopped};
-ghost use Rattle.wire.specs.Functions.{function_flaw, argument_of, shift_of, plain, mirror_of, choosing};
+ghost use Rattle.wire.specs.Functions.{function_flaw, argument_of, shift_of, plain, mirror_of, choosing, ranking_of, fractional_of};
 ghost use Rattle.wire.specs.declared.stop.Stop.TheVariants as stop;
 
 use crate::stop::Stop;
@@ -12,6 +12,7 @@ use evaluator::utils::Argument;
 use lead_lag::WindowShift;
 use lead_lag::offset::WindowShiftKind;
 use nth_value::NthValue;
+use rank::rank::RankType;
 
 // A window function with its arguments; the marks are 0 or 1.
 #[repr(C)]
@@ -37,9 +38,9 @@ pub struct Function {
 // The functions whose answers are of one type: the first and last name, and whether they have mirrors.
 #[derive(Clone, Copy)]
 pub(crate) struct Family {
-    first: u8,
-    last: u8,
-    mirrors: u8,
+    pub(crate) first: u8,
+    pub(crate) last: u8,
+    pub(crate) mirrors: u8,
 }
 
 pub(crate) const CELLS: Family = Family {
@@ -67,6 +68,20 @@ pub enum Chosen<K> {
     Nth(NthValue<K>),
 }
 
+// The functions whose answers are numbers.
+#[derive(Clone, Copy)]
+pub enum Ranking {
+    Rank(RankType),
+    RowNumber,
+}
+
+// The functions whose answers are fractions.
+#[derive(Clone, Copy)]
+pub enum Fractional {
+    PercentRank,
+    CumeDist,
+}
+
 impl Function {
     // The first field that stands for nothing in a family.
     fn flaw(&self, family: Family) -> Option<usize>
@@ -90,6 +105,13 @@ impl Function {
     {
         self.flaw(family)
             .map_or(Ok(()), |field| Err(Stop::Function(field)))
+    }
+
+    // Whether the frames of its run all begin at 0.
+    pub(crate) fn is_from_zero(&self) -> bool
+        ensures { result ≡ (self.now.from_zero == 1) }
+    {
+        self.from_zero == 1
     }
 
     fn argument(&self) -> Argument
@@ -129,6 +151,27 @@ impl Function {
             2 => Ok(Chosen::Nth(NthValue::first(ignoring))),
             3 => Ok(Chosen::Nth(NthValue::last(ignoring))),
             _ => Ok(Chosen::Nth(NthValue::nth(self.argument(), ignoring)?)),
+        }
+    }
+
+    // The function of numbers of a description without a flaw.
+    pub(crate) fn ranking(&self) -> Ranking
+        ensures { result ≡ ranking_of self.now }
+    {
+        match self.name {
+            5 => Ranking::Rank(RankType::Basic),
+            6 => Ranking::Rank(RankType::Dense),
+            _ => Ranking::RowNumber,
+        }
+    }
+
+    // The function of fractions of a description without a flaw.
+    pub(crate) fn fractional(&self) -> Fractional
+        ensures { result ≡ fractional_of self.now }
+    {
+        match self.name {
+            8 => Fractional::PercentRank,
+            _ => Fractional::CumeDist,
         }
     }
 

@@ -1,8 +1,9 @@
-ghost use Rattle.std.specs.Prelude.{◌≡◌, ℕ, ◌&&◌, Bool, false, List, map, position, Option, None, IfOk, cond, Some};
+ghost use Rattle.std.specs.Prelude.{◌≡◌, map, IfOk};
 ghost use Rattle.wire.specs.Outcomes.{numbers_of, flawed, outcome_of};
+ghost use Rattle.wire.specs.Kinds.{Coding, plain_coding, outcome_coding, same_instant_code};
+ghost use Rattle.wire.specs.Whole.{default_flaw};
 ghost use Rattle.wire.specs.Stops.{Makes, stopped, gives};
 ghost use Rattle.wire.specs.declared.stop.Stop.TheVariants.{Value, Function};
-ghost use Rattle.column.specs.Kinds.{same_instant, same_code};
 ghost use Rattle.std.proofs.Common.{rules};
 
 use crate::stop::Stop;
@@ -19,7 +20,7 @@ pub struct InstantCode {
 }
 
 impl Kind for InstantCode {
-    ghost same = { λ x y. same_instant x.instant y.instant && same_code x.code y.code };
+    ghost same = { same_instant_code };
 
     ghost tested = { Prim.search rules };
 }
@@ -66,26 +67,15 @@ pub trait Crossing {
     // what C has of a value
     type Numbers: Copy;
 
-    // what stands for a value
-    ghost encoded: { Self.Value → Self.Numbers };
-
-    // numbers that stand for no value, and the value of others
-    ghost flawed: { Self.Numbers → Bool };
-
-    ghost decoded: { Self.Numbers → Self.Value };
-
-    // the same of a list
-    ghost flaws: { List Self.Numbers → Option ℕ };
-
-    ghost decodes: { List Self.Numbers → List Self.Value };
+    ghost coding: { Coding Self.Value Self.Numbers };
 
     // Whether numbers stand for no value.
     fn is_flawed(numbers: Self::Numbers) -> bool
-        ensures { result ≡ flawed numbers };
+        ensures { result ≡ coding.flawed numbers };
 
     // The first of a list that stands for no value.
     fn flaw(list: &[Self::Numbers]) -> Option<usize>
-        ensures { result ≡ flaws list.now };
+        ensures { result ≡ coding.flaws list.now };
 
     // The values of a list without a flaw; those that have to be made go to the room.
     fn values<'a>(
@@ -93,14 +83,14 @@ pub trait Crossing {
         list: &'a [Self::Numbers],
         room: &'a mut Vec<Self::Value>,
     ) -> Result<&'a [Self::Value], AllocError>
-        ensures { IfOk result (λ s. s.now ≡ decodes list.entry.now) };
+        ensures { IfOk result (λ s. s.now ≡ coding.decodes list.entry.now) };
 
     // The value of numbers without a flaw.
     fn value(numbers: Self::Numbers) -> Self::Value
-        ensures { result ≡ decoded numbers };
+        ensures { result ≡ coding.decoded numbers };
 
     fn numbers(value: Self::Value) -> Self::Numbers
-        ensures { result ≡ encoded value };
+        ensures { result ≡ coding.encoded value };
 }
 
 // Values that cross as they are.
@@ -113,15 +103,7 @@ impl<K: Kind> Crossing for Plain<K> {
 
     type Numbers = K;
 
-    ghost encoded = { λ value. value };
-
-    ghost flawed = { λ numbers. false };
-
-    ghost decoded = { λ numbers. numbers };
-
-    ghost flaws = { λ list. None };
-
-    ghost decodes = { λ list. list };
+    ghost coding = { plain_coding };
 
     fn is_flawed(_numbers: K) -> bool {
         false
@@ -156,15 +138,7 @@ impl Crossing for Outcomes {
 
     type Numbers = OutcomeNumbers;
 
-    ghost encoded = { numbers_of };
-
-    ghost flawed = { flawed };
-
-    ghost decoded = { outcome_of };
-
-    ghost flaws = { λ list. position flawed list };
-
-    ghost decodes = { λ list. map outcome_of list };
+    ghost coding = { outcome_coding };
 
     fn is_flawed(numbers: OutcomeNumbers) -> bool {
         numbers.is_flawed()
@@ -202,7 +176,7 @@ pub(crate) fn read_values<'a, C: Crossing>(
     list: &'a [C::Numbers],
     room: &'a mut Vec<C::Value>,
 ) -> Result<&'a [C::Value], Stop>
-    ensures { Makes result (stopped Value (C.Crossing.flaws list.entry.now)) (λ s. s.now ≡ C.Crossing.decodes list.entry.now) }
+    ensures { Makes result (stopped Value (C.Crossing.coding.flaws list.entry.now)) (λ s. s.now ≡ C.Crossing.coding.decodes list.entry.now) }
 {
     if let Some(place) = C::flaw(list) {
         return Err(Stop::Value(place));
@@ -212,7 +186,7 @@ pub(crate) fn read_values<'a, C: Crossing>(
 
 // The default, which stands behind the marks of a function's description.
 pub(crate) fn read_default<C: Crossing>(numbers: C::Numbers) -> Result<C::Value, Stop>
-    ensures { result ≡ gives (C.Crossing.decoded numbers) (stopped Function (cond (C.Crossing.flawed numbers) (Some 8) None)) }
+    ensures { result ≡ gives (C.Crossing.coding.decoded numbers) (stopped Function (default_flaw C.Crossing.coding numbers)) }
 {
     if C::is_flawed(numbers) {
         return Err(Stop::Function(8));

@@ -17,13 +17,13 @@ impl<'a, C: Crossing> Output<Option<C::Value>> for LentCells<'a, C, C::Numbers> 
 
     ghost slots = { lent_slots };
 
-    ghost stored = { put_lent C.Crossing.encoded };
+    ghost stored = { put_lent C.Crossing.coding.encoded };
 
     ghost size = { lent_count };
 
     ghost place = { same_lent };
 
-    ghost laws = { lent_laws C.Crossing.encoded };
+    ghost laws = { lent_laws C.Crossing.coding.encoded };
 
     fn len(&self) -> usize {
         self.values.len().min(self.marks.len())

@@ -1,5 +1,5 @@
-use Rattle.std.proofs.Common.{◌≡◌, ℕ, refl, ap, ◌∙◌, sym, rules, set, arith}
-use Rattle.wire.specs.Runs.{noted, put_outcome}
+use Rattle.std.proofs.Common.{ap, ◌∙◌, set, arith}
+use Rattle.wire.specs.Runs.{noted}
 use Rattle.wire.proofs.Fronts.{one_more}
 use Rattle.wire.proofs.Puts.{put_one}
 use Rattle.wire.proofs.runs.write_entries.Goals as goal

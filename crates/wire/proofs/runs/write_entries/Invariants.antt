@@ -1,4 +1,4 @@
-use Rattle.std.proofs.Common.{◌≡◌, ℕ, ◌≤◌, length, drop}
+use Rattle.std.proofs.Common.{◌≡◌, ◌≤◌, length, drop}
 use Rattle.wire.specs.Runs.{noted, put_entries}
 use Rattle.wire.proofs.Fronts.{partly}
 use Rattle.wire.proofs.runs.write_entries.Given as goal

@@ -1,4 +1,4 @@
-use Rattle.std.proofs.Common.{◌≡◌, ℕ, refl, get_or, Fits}
+use Rattle.std.proofs.Common.{get_or}
 use Rattle.std.proofs.lemmas.List.{get_or_default}
 use Rattle.wire.specs.Lists.{span_of}
 use Rattle.wire.proofs.Fronts.{one_more}

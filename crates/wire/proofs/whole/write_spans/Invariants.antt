@@ -1,4 +1,4 @@
-use Rattle.std.proofs.Common.{◌≡◌, ℕ, length}
+use Rattle.std.proofs.Common.{◌≡◌}
 use Rattle.wire.specs.Lists.{span_of}
 use Rattle.wire.proofs.Fronts.{partly}
 use Rattle.wire.proofs.whole.write_spans.Given as goal

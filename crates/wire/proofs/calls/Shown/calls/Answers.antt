@@ -1,4 +1,4 @@
-use Rattle.std.proofs.Common.{◌≡◌, ℕ, ◌<◌, length, inl, inr, refl, ap, ◌∙◌, sym, rules, set, arith}
+use Rattle.std.proofs.Common.{length, inr, rules, arith}
 use Rattle.wire.specs.Calls.{calls_in}
 use Rattle.wire.proofs.Flaws.{read_none, read_flawed, read_one, read_all, rest_left, none_left, all_stand}
 use Rattle.wire.proofs.calls.Shown.calls.Goals as goal

@@ -1,4 +1,3 @@
-use Rattle.std.proofs.Common.{◌≤◌, length}
 use Rattle.wire.specs.Calls.{rest_flaw}
 use Rattle.wire.proofs.Flaws.{Reading}
 use Rattle.wire.proofs.calls.Shown.calls.Given as goal
