@@ -90,7 +90,10 @@ impl Case {
             (Function::Shift(_), _) => {
                 argument(&self.function).is_some_and(|m| (m as usize) < rows)
             }
-            (_, Over::Frames(_, Frames::Last(length))) => length <= rows,
+            // Over more rows than a million frames of one length stand for all, so that the whole ends in time.
+            (_, Over::Frames(_, Frames::Last(length))) => {
+                length <= rows && (rows <= 1_000_000 || length == 1000)
+            }
             (_, Over::Groups(group)) => group <= rows || group == usize::MAX,
             _ => true,
         }
