@@ -17,6 +17,7 @@ pub trait Kind: Copy + Eq {
 }
 
 // A point in time.
+#[repr(C)]
 #[derive(Clone, Copy, PartialEq, Eq, Debug)]
 pub struct Instant(pub i64);
 
@@ -27,6 +28,7 @@ impl Kind for Instant {
 }
 
 // Who logged in, without a name.
+#[repr(C)]
 #[derive(Clone, Copy, PartialEq, Eq)]
 pub struct Pseudonym {
     pub high: u64,
@@ -40,6 +42,7 @@ impl Kind for Pseudonym {
 }
 
 // A college's code of up to eight bytes, the first byte highest, unused bytes 0.
+#[repr(C)]
 #[derive(Clone, Copy, PartialEq, Eq)]
 pub struct CollegeCode(pub u64);
 

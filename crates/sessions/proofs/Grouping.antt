@@ -12,7 +12,7 @@ use Rattle.column.specs.Refusal.{row_limit}
 use Rattle.sessions.specs.declared.partitions.Place.{Place}
 use Rattle.sessions.specs.declared.record.Record.{Record}
 use Rattle.sessions.specs.Names.{number_in, Numbered}
-use Rattle.sessions.specs.Sessions.{Cell, lists, session, session_at, cells_of, Grouped, Appended, Bounded, Within, sessions_in}
+use Rattle.sessions.specs.Sessions.{Cell, lists, session, session_at, cells_of, Grouped, Appended, Bounded, Full, FirstFull, Within, sessions_in}
 use Rattle.sessions.proofs.Groups.{row_session, take_same, take_other}
 use Rattle.sessions.proofs.Pushes.{each_push}
 
@@ -20,6 +20,7 @@ use Rattle.sessions.proofs.Pushes.{each_push}
 pub record Placed (rows : List Record) (f : List ℕ → Option ℕ) (j : ℕ) (p : Place) : Type 0 where
   pub session : f (session_at rows j) ≡ Some p.session
   pub row : p.row ≡ length (cells_of (session_at rows j) (take j rows))
+  pub small : p.row < row_limit
 
 -- the list of a name's number, which has cells and is no other name's
 pub record Listed (rows : List Record) (i : ℕ) (ls : List (List Cell)) (v : List ℕ) (n : ℕ) : Type 0 where
@@ -117,16 +118,17 @@ module _ (rows : List Record) (i : ℕ) (r : Record) (within : i < length rows) 
 
     -- a record before keeps its place
     placed_still : (j : ℕ) (p : Place) → Placed rows f j p → Placed rows g j p
-    placed_still j p h = record { session = by (bytes_eq (session r) (session_at rows j)) refl; row = h.row }
+    placed_still j p h = record { session = by (bytes_eq (session r) (session_at rows j)) refl; row = h.row; small = h.small }
       where
         by : (b : Bool) → bytes_eq (session r) (session_at rows j) ≡ b → g (session_at rows j) ≡ Some p.session
         by true e = session_now (session_at rows j) e ∙ ap Some (kept p.session (ap f (sym (is_session (session_at rows j) e)) ∙ h.session))
         by false e = other_now (session_at rows j) e ∙ h.session
 
-    placed_here : (p : Place) → p.session ≡ n → p.row ≡ length (get_or ls n []) → Placed rows g i p
-    placed_here p s k = record {
+    placed_here : (p : Place) → p.session ≡ n → p.row ≡ length (get_or ls n []) → p.row < row_limit → Placed rows g i p
+    placed_here p s k small = record {
       session = session_now (session_at rows i) ((bytes_eq-Decides (session r) (session_at rows i)).1 (sym same_name)) ∙ ap Some (sym s);
       row = k ∙ ap length list_here ∙ ap (λ (v : List ℕ). length (cells_of v (take i rows))) (sym same_name);
+      small = small;
     }
 
     bounded_more : length (get_or ls n []) < row_limit → Bounded ls'
@@ -154,7 +156,7 @@ module _ (rows : List Record) (i : ℕ) (r : Record) (within : i < length rows) 
       fresh = λ v h. fresh_more v (bytes_eq (session r) v) refl h;
       listed = λ v q h. listed_more v q (bytes_eq (session r) v) refl h;
       own = λ v w q h e. own_more v w q (bytes_eq (session r) v) (bytes_eq (session r) w) refl refl h e;
-      placed = λ j d h. subst (λ l. Placed rows g j (get_or l j d)) (sym is) (each_push (Placed rows g) places p d i old.all (λ a b. placed_still a (get_or places a d) (old.placed a d b)) (placed_here p s k) j h);
+      placed = λ j d h. subst (λ l. Placed rows g j (get_or l j d)) (sym is) (each_push (Placed rows g) places p d i old.all (λ a b. placed_still a (get_or places a d) (old.placed a d b)) (placed_here p s k small) j h);
       bounded = bounded_more (omega (arith, small, k));
       count = count_more;
     }
@@ -185,6 +187,12 @@ grouped_all rows f i ls places g end = (
   where
     listed : (j : ℕ) (d : Place) → j < length rows → Listed rows i ls (session_at rows j) (get_or places j d).session
     listed j d h = g.listed (session_at rows j) (get_or places j d).session (g.placed j d (omega (arith, end))).session
+
+-- no record so far is too many
+pub none_full : {rows : List Record} {f : List ℕ → Option ℕ} {i : ℕ} {ls : List (List Cell)} (places : List Place) → Grouping rows f i ls places → (j : ℕ) → j < i → Full rows j → ⊥
+none_full places g j h full =
+    let p = g.placed j (record { session = 0; row = 0 }) h in
+    omega (arith, p.row, p.small, full)
 
 -- the session's number is that of a list, or the next
 number_range : {rows : List Record} {f : List ℕ → Option ℕ} {i : ℕ} {ls : List (List Cell)} {places : List Place} (v : List ℕ) (n : ℕ) → Grouping rows f i ls places → n ≡ unwrap_or (f v) (length ls) → n ≤ length ls
@@ -219,3 +227,13 @@ module _ {rows : List Record} {old new : BTreeMap (Bor (List ℕ)) ℕ} {i : ℕ
 
   pub grouped_turn : (k : ℕ) (w : Vec (Vec Cell Y) Z) (places' : List Place) → Appended (lists v) (lists w) n (get_or rows i d).expiry → k ≡ length (get_or (lists v) n []) → k < row_limit → places' ≡ places ++ (record { session = n; row = k } ∷ []) → Grouping rows (number_in new) (i + 1) (lists w) places'
   grouped_turn k w places' more e small is = grouped_more rows i (get_or rows i d) within here (number_in old) (number_in new) n (lists v) (lists w) places before number named.names more (record { session = n; row = k }) places' refl e small is
+
+  -- a record more is the first that is too many
+  pub first_full : (k : ℕ) → k ≡ length (get_or (lists v) n []) → row_limit ≤ k → FirstFull rows i
+  first_full k e large =
+      let list = list_here rows i (get_or rows i d) within here (number_in old) (number_in new) n (lists v) (lists v) places before number in
+      record {
+        within = within;
+        full = omega (arith, e, large, before.bounded n, ap length list, ap (λ (s : List ℕ). length (cells_of s (take i rows))) (row_session rows i (get_or rows i d) within here));
+        before = none_full places before;
+      }

@@ -1,17 +1,17 @@
 -- What is wrong with a text that is refused. Assumes nothing.
-use Rattle.std.specs.Prelude.{◌≡◌, ℕ, ◌+◌, ◌<◌, ◌⊎◌, List, [], ◌∷◌, map, length, take, codes, ◌≢◌, slice_index, slice_index_or}
+use Rattle.std.specs.Prelude.{◌≡◌, ℕ, ◌+◌, ◌<◌, ◌⊎◌, List, [], ◌∷◌, map, length, codes, ◌≢◌, slice_index, slice_index_or}
 use Rattle.std.specs.Borrow.{Bor}
 use Rattle.std.specs.List.{join_with_byte}
-use Rattle.column.specs.Refusal.{row_limit}
+use Rattle.std.specs.Str.Iter.{LacksByte}
 use Rattle.sessions.specs.declared.columns.Columns.{Columns}
 use Rattle.sessions.specs.declared.record.Record.{Record}
 use Rattle.sessions.specs.declared.problem.Problem.{Problem}
 use Rattle.sessions.specs.declared.problem.Problem.TheVariants.{Empty, NoColumn, ColumnTwice, Quote, Ragged, NoSession, NoNumber, TooManyRecords}
 use Rattle.sessions.specs.declared.problem.Refusal.{Refusal}
 use Rattle.sessions.specs.declared.problem.Refusal.TheVariants as refusals
-use Rattle.sessions.specs.Header.{Absent}
+use Rattle.sessions.specs.Header.{Absent, Column}
 use Rattle.sessions.specs.Reading.{Whole, Apart, Stripped, Lines, FromHeader, FromLines, IsTable}
-use Rattle.sessions.specs.Sessions.{cells_of, session_at}
+use Rattle.sessions.specs.Sessions.{FirstFull, session_at}
 
 -- the bytes have c among them
 abbrev pub Holds : ℕ → List ℕ → Type 0
@@ -37,9 +37,15 @@ NameFault names name NoSession = ⊥
 NameFault names name (NoNumber column text) = ⊥
 NameFault names name (TooManyRecords s) = ⊥
 
--- one of the columns that are read
+-- one column has the name
+abbrev pub Unique : List (Bor (List ℕ)) → List ℕ → Type 0
+Unique names name = (k : ℕ) × Column names name (length names) k
+
+-- of the columns that are read, in this order, the first that is at fault
 abbrev pub NamesFault : List (Bor (List ℕ)) → Problem → Type 0
-NamesFault names p = NameFault names (codes "session") p ⊎ (NameFault names (codes "instant") p ⊎ NameFault names (codes "renewed_expiry") p)
+NamesFault names p = NameFault names (codes "session") p
+    ⊎ ((Unique names (codes "session") × NameFault names (codes "instant") p)
+    ⊎ (Unique names (codes "session") × Unique names (codes "instant") × NameFault names (codes "renewed_expiry") p))
 
 -- the text in this column is no whole number
 abbrev pub IsNoNumber : List ℕ → List ℕ → Problem → Type 0
@@ -52,23 +58,40 @@ IsNoNumber column text NoSession = ⊥
 IsNoNumber column text (NoNumber c t) = (c.now ≡ column) × (t.now ≡ text) × (Whole text → ⊥)
 IsNoNumber column text (TooManyRecords s) = ⊥
 
--- a field that is no whole number: the instant, or an expiry that is there
-abbrev pub NumberFault : Columns → List (Bor (List ℕ)) → List ℕ → List ℕ → Type 0
-NumberFault c fs column text = ((column ≡ codes "instant") × ((d : Bor (List ℕ)) → text ≡ (slice_index_or fs c.instant d).now)) ⊎ ((column ≡ codes "renewed_expiry") × ((d : Bor (List ℕ)) → text ≡ (slice_index_or fs c.expiry d).now) × (0 < length text))
+-- a line without a quote, and with a field for each column
+abbrev pub Even : Columns → List ℕ → List (Bor (List ℕ)) → Type 0
+Even c line fs = LacksByte 34 line × (length fs ≡ c.count)
 
--- what is wrong with a line that is no record
+-- such a line that has a session
+abbrev pub Named : Columns → List ℕ → List (Bor (List ℕ)) → Type 0
+Named c line fs = Even c line fs × ((d : Bor (List ℕ)) → 0 < length (slice_index_or fs c.session d).now)
+
+-- the text of the instant
+abbrev pub InstantIs : Columns → List (Bor (List ℕ)) → List ℕ → Type 0
+InstantIs c fs text = (d : Bor (List ℕ)) → text ≡ (slice_index_or fs c.instant d).now
+
+-- the text of the expiry, where one is there and the instant is whole
+abbrev pub ExpiryIs : Columns → List (Bor (List ℕ)) → List ℕ → Type 0
+ExpiryIs c fs text = ((d : Bor (List ℕ)) → Whole (slice_index_or fs c.instant d).now) × ((d : Bor (List ℕ)) → text ≡ (slice_index_or fs c.expiry d).now) × (0 < length text)
+
+-- the first field that is no whole number where one is wanted
+abbrev pub NumberFault : Columns → List (Bor (List ℕ)) → List ℕ → List ℕ → Type 0
+NumberFault c fs column text = ((column ≡ codes "instant") × InstantIs c fs text) ⊎ ((column ≡ codes "renewed_expiry") × ExpiryIs c fs text)
+
+-- what is wrong with a line that is no record, by the first check, in this order, that it fails
 abbrev pub LineFault : Columns → List ℕ → List (Bor (List ℕ)) → Problem → Type 0
 LineFault c line fs Empty = ⊥
 LineFault c line fs (NoColumn n) = ⊥
 LineFault c line fs (ColumnTwice n) = ⊥
 LineFault c line fs Quote = Holds 34 line
-LineFault c line fs (Ragged found expected) = (found ≡ length fs) × (expected ≡ c.count) × (found ≢ expected)
-LineFault c line fs NoSession = (d : Bor (List ℕ)) → length (slice_index_or fs c.session d).now ≡ 0
-LineFault c line fs (NoNumber column text) = (Whole text.now → ⊥) × NumberFault c fs column.now text.now
+LineFault c line fs (Ragged found expected) = LacksByte 34 line × (found ≡ length fs) × (expected ≡ c.count) × (found ≢ expected)
+LineFault c line fs NoSession = Even c line fs × ((d : Bor (List ℕ)) → length (slice_index_or fs c.session d).now ≡ 0)
+LineFault c line fs (NoNumber column text) = Named c line fs × (Whole text.now → ⊥) × NumberFault c fs column.now text.now
 LineFault c line fs (TooManyRecords s) = ⊥
 
--- a header's line whose columns are at fault
+-- a header's line without a quote, whose columns are at fault
 pub record BadNames (line : List ℕ) (p : Problem) : Type 0 where
+  pub unquoted : LacksByte 34 line
   pub names : List (Bor (List ℕ))
   pub cut : line ≡ join_with_byte 44 (map (λ f. f.now) names)
   pub apart : Apart 44 names
@@ -90,6 +113,7 @@ pub record BadFields (c : Columns) (whole : List ℕ) (p : Problem) : Type 0 whe
   pub fields : List (Bor (List ℕ))
   pub cut : line ≡ join_with_byte 44 (map (λ f. f.now) fields)
   pub apart : Apart 44 fields
+  pub some : 0 < length fields
   pub fault : LineFault c line fields p
 
 -- a line n that is refused, by memory or for what is wrong with it
@@ -97,8 +121,9 @@ abbrev pub LineRefused : Columns → List ℕ → ℕ → Refusal → Type 0
 LineRefused c whole n refusals.Memory = Unit {0}
 LineRefused c whole n (refusals.At m p) = (m ≡ n) × BadFields c whole p
 
--- a text whose first line is no header
+-- a text that is not empty, whose first line is no header
 pub record BadHeader (text : List ℕ) (p : Problem) : Type 0 where
+  pub some : 0 < length text
   pub top : Bor (List ℕ)
   pub below : List (Bor (List ℕ))
   pub lines_are : Lines text (top ∷ below)
@@ -151,14 +176,13 @@ abbrev pub FullAt : List Record → ℕ → Refusal → Type 0
 FullAt rows k refusals.Memory = ⊥
 FullAt rows k (refusals.At n p) = (n ≡ k + 2) × OfSession (session_at rows k) p
 
--- a text with a session that has more records than a partition may have
+-- a text with a session that has more records than a partition may have, and the first record that is too many
 pub record TooFull (text : List ℕ) (r : Refusal) : Type 0 where
   pub header : List ℕ
   pub rows : List Record
   pub read : IsTable text header rows
   pub place : ℕ
-  pub within : place < length rows
-  pub full : length (cells_of (session_at rows place) (take place rows)) ≡ row_limit
+  pub first : FirstFull rows place
   pub says : FullAt rows place r
 
 -- a text without a report

@@ -1,4 +1,5 @@
 pub mod Header
+pub mod Messages
 pub mod Names
 pub mod Reading
 pub mod Report

@@ -68,10 +68,20 @@ Bounded ls = (k : ℕ) → length (slice_index_or ls k []) ≤ row_limit
 abbrev pub Within : List Record → Type 0
 Within rows = (i : ℕ) → i < length rows → length (cells_of (session_at rows i) rows) ≤ row_limit
 
--- a refusal for its session's length names a record before which the session is full
+-- as many records of record i's session stand before it as a partition may have
+abbrev pub Full : List Record → ℕ → Type 0
+Full rows i = length (cells_of (session_at rows i) (take i rows)) ≡ row_limit
+
+-- record i is the first that is too many
+pub record FirstFull (rows : List Record) (i : ℕ) : Type 0 where
+  pub within : i < length rows
+  pub full : Full rows i
+  pub before : (j : ℕ) → j < i → Full rows j → ⊥
+
+-- a refusal for a session's length names the first record that is too many
 abbrev pub Overfull : List Record → Unanswered → Type 0
 Overfull rows Memory = Unit {0}
-Overfull rows (TooMany i) = (i < length rows) × (length (cells_of (session_at rows i) (take i rows)) ≡ row_limit)
+Overfull rows (TooMany i) = FirstFull rows i
 
 -- the answer of each cell is the last present one before it
 pub record Answered (cs answers : List Cell) : Type 0 where

@@ -1,4 +1,5 @@
-ghost use Rattle.std.specs.Prelude.{◌≡◌};
+ghost use Rattle.std.specs.Prelude.{◌≡◌, Some};
+ghost use Rattle.sessions.specs.Messages.{problem_text, refusal_text};
 ghost use Rattle.sessions.specs.declared.problem.Refusal.TheVariants.{Memory as NoMemory, At};
 ghost use Rattle.sessions.specs.declared.problem.Unanswered.TheVariants.{Memory};
 
@@ -66,6 +67,8 @@ impl<'a, E: Into<AllocError>> From<E> for Refusal<'a> {
 }
 
 impl<'a> fmt::Display for Problem<'a> {
+    ghost output = { λ p. Some (problem_text p) };
+
     fn fmt<W: fmt::Write>(&self, f: &mut fmt::Formatter<W>) -> fmt::Result {
         match *self {
             Problem::Empty => f.write_str("no header: the file is empty"),
@@ -88,6 +91,8 @@ impl<'a> fmt::Display for Problem<'a> {
 
 // `FILE:LINE: PROBLEM`, as what follows the file's name.
 impl<'a> fmt::Display for Refusal<'a> {
+    ghost output = { λ r. Some (refusal_text r) };
+
     fn fmt<W: fmt::Write>(&self, f: &mut fmt::Formatter<W>) -> fmt::Result {
         match *self {
             Refusal::Memory => f.write_str(" not enough memory"),

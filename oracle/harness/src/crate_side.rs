@@ -72,7 +72,7 @@ impl From<DataFusionError> for Stop {
 
 type Asked<T> = std::result::Result<T, Stop>;
 
-fn udwf(function: &Function) -> Arc<WindowUDF> {
+pub fn udwf(function: &Function) -> Arc<WindowUDF> {
     match function {
         Function::Shift(shift) if shift.lead => lead_lag::lead_udwf(),
         Function::Shift(_) => lead_lag::lag_udwf(),
@@ -88,7 +88,7 @@ fn udwf(function: &Function) -> Arc<WindowUDF> {
 }
 
 /// The literal of an argument, none where it is missing.
-fn literal(argument: Argument) -> Option<ScalarValue> {
+pub fn literal(argument: Argument) -> Option<ScalarValue> {
     match argument {
         Argument::Missing => None,
         Argument::Null => Some(ScalarValue::Null),
@@ -122,15 +122,16 @@ fn literals(function: &Function, kind: &Kind, manner: Manner) -> Asked<Vec<Scala
     Ok(literals)
 }
 
-fn make(
+/// An evaluator over columns of a type, of the literals after the column.
+pub fn make(
     udwf: &WindowUDF,
-    kind: &Kind,
+    data_type: DataType,
     literals: Vec<ScalarValue>,
     is_reversed: bool,
     ignore_nulls: bool,
 ) -> Result<Box<dyn PartitionEvaluator>> {
     let field = |data_type| -> FieldRef { Field::new("", data_type, true).into() };
-    let mut input_fields = vec![field(DataType::Kind(kind.clone()))];
+    let mut input_fields = vec![field(data_type)];
     let mut input_exprs: Vec<Arc<dyn PhysicalExpr>> = vec![Arc::new(expressions::Column)];
     for value in literals {
         input_fields.push(field(value.data_type()));
@@ -162,7 +163,14 @@ fn evaluator(
         };
     }
     let ignoring = function.ignores_nulls();
-    Ok(make(&udwf, kind, literals, reversed != mirror, ignoring)?)
+    let data_type = DataType::Kind(kind.clone());
+    Ok(make(
+        &udwf,
+        data_type,
+        literals,
+        reversed != mirror,
+        ignoring,
+    )?)
 }
 
 fn array(kind: &Kind, cells: &[Cell], bitmap: bool) -> Result<ArrayRef> {
@@ -477,7 +485,8 @@ pub fn built(lead: bool, offset: Option<i64>, kind: &Kind, cells: &[Cell]) -> Ou
             Expr::Literal(value) => Some(value),
             _ => None,
         });
-        let mut evaluator = make(&udwf, kind, literals.collect(), false, false)?;
+        let data_type = DataType::Kind(kind.clone());
+        let mut evaluator = make(&udwf, data_type, literals.collect(), false, false)?;
         let values = [array(kind, cells, false)?];
         let out = evaluator.evaluate_all(&values, cells.len())?;
         Ok(Outcome::Answers(answers_of(&out)?))

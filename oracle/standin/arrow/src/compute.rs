@@ -16,9 +16,7 @@ pub fn take(
     indices: &UInt64Array,
     _options: Option<TakeOptions>,
 ) -> Result<ArrayRef, ArrowError> {
-    let rows = indices.values();
-    let mut picks = (0..rows.len()).map(|i| indices.is_valid(i).then(|| (0, rows[i] as usize)));
-    values.gather(&[values], &mut picks)
+    Ok(values.take(indices))
 }
 
 /// The rows at (array, row).
@@ -26,19 +24,12 @@ pub fn interleave(
     arrays: &[&dyn Array],
     indices: &[(usize, usize)],
 ) -> Result<ArrayRef, ArrowError> {
-    let first = first_of(arrays)?;
-    first.gather(arrays, &mut indices.iter().map(|pick| Some(*pick)))
+    first_of(arrays)?.interleave(arrays, indices)
 }
 
 /// The arrays one behind the other.
 pub fn concat(arrays: &[&dyn Array]) -> Result<ArrayRef, ArrowError> {
-    let first = first_of(arrays)?;
-    let picks: Vec<_> = arrays
-        .iter()
-        .enumerate()
-        .flat_map(|(a, array)| (0..array.len()).map(move |row| Some((a, row))))
-        .collect();
-    first.gather(arrays, &mut picks.into_iter())
+    first_of(arrays)?.concat(arrays)
 }
 
 fn first_of<'a>(arrays: &[&'a dyn Array]) -> Result<&'a dyn Array, ArrowError> {

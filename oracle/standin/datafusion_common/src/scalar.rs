@@ -1,5 +1,5 @@
 use crate::{DataFusionError, Result, exec_err};
-use arrow::array::{ArrayRef, Datum, array_of};
+use arrow::array::{ArrayRef, Datum, array_of, array_of_one};
 use arrow::datatypes::DataType;
 use kinds::{Kind, Value};
 
@@ -64,8 +64,7 @@ impl ScalarValue {
 
     pub fn to_array_of_size(&self, size: usize) -> Result<ArrayRef> {
         let cell = self.datum();
-        let mut cells = std::iter::repeat_n(cell, size);
-        Ok(array_of(&self.data_type(), &mut cells)?)
+        Ok(array_of_one(&self.data_type(), cell.as_ref(), size)?)
     }
 
     pub fn iter_to_array(scalars: impl IntoIterator<Item = ScalarValue>) -> Result<ArrayRef> {

@@ -1,0 +1,5 @@
+pub mod Ends
+pub mod Flaws
+pub mod Fronts
+pub mod Puts
+pub mod Told

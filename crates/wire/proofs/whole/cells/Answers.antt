@@ -1,0 +1,5 @@
+use Rattle.wire.proofs.Ends.{done_told}
+use Rattle.wire.proofs.whole.cells.Goals as goal
+
+pub returns : goal.returns
+returns g c = done_told _ _ _ _ _ _ c.of_unit.ensures c.try_cells.ensures

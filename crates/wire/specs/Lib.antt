@@ -1,0 +1,10 @@
+pub mod Calls
+pub mod Ends
+pub mod Functions
+pub mod Kinds
+pub mod Lists
+pub mod Outcomes
+pub mod Runs
+pub mod Slots
+pub mod Stops
+pub mod Whole
