@@ -1,5 +1,5 @@
 -- How values of a kind cross.
-use Rattle.std.specs.Prelude.{ℕ, Bool, ◌&&◌, false, List, map, position, None, Option}
+use Rattle.std.specs.Prelude.{◌≡◌, ℕ, Bool, ◌&&◌, false, List, map, position, None, Option}
 use Rattle.column.specs.declared.kind.LoginOutcome.{LoginOutcome}
 use Rattle.column.specs.Kinds.{same_instant, same_code}
 use Rattle.wire.specs.declared.kinds.InstantCode.{InstantCode}
@@ -26,3 +26,12 @@ plain_coding = record { encoded = λ v. v; flawed = λ v. false; decoded = λ v.
 -- a login outcome
 abbrev pub outcome_coding : Coding LoginOutcome OutcomeNumbers
 outcome_coding = record { encoded = numbers_of; flawed = flawed; decoded = outcome_of; flaws = position flawed; decodes = map outcome_of }
+
+-- what a coding owes: a value is read back from what C has for it, and what C has without a flaw is that of its value
+pub record CodingLaws {V N : Type 0} (k : Coding V N) : Type 0 where
+  pub fine : (v : V) → k.flawed (k.encoded v) ≡ false
+  pub back : (v : V) → k.decoded (k.encoded v) ≡ v
+  pub only : (n : N) → k.flawed n ≡ false → k.encoded (k.decoded n) ≡ n
+  -- lists go value by value
+  pub flaws : (ns : List N) → k.flaws ns ≡ position k.flawed ns
+  pub decodes : (ns : List N) → k.decodes ns ≡ map k.decoded ns

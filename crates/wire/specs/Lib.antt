@@ -2,6 +2,7 @@ pub mod Calls
 pub mod Ends
 pub mod Functions
 pub mod Kinds
+pub mod KindsLemmas
 pub mod Lists
 pub mod Outcomes
 pub mod Runs

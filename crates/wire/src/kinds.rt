@@ -1,6 +1,7 @@
 ghost use Rattle.std.specs.Prelude.{◌≡◌, map, IfOk};
 ghost use Rattle.wire.specs.Outcomes.{numbers_of, flawed, outcome_of};
-ghost use Rattle.wire.specs.Kinds.{Coding, plain_coding, outcome_coding, same_instant_code};
+ghost use Rattle.wire.specs.Kinds.{Coding, CodingLaws, plain_coding, outcome_coding, same_instant_code};
+ghost use Rattle.wire.specs.KindsLemmas.{plain_lawful, outcome_lawful};
 ghost use Rattle.wire.specs.Whole.{default_flaw};
 ghost use Rattle.wire.specs.Stops.{Makes, stopped, gives};
 ghost use Rattle.wire.specs.declared.stop.Stop.TheVariants.{Value, Function};
@@ -69,6 +70,8 @@ pub trait Crossing {
 
     ghost coding: { Coding Self.Value Self.Numbers };
 
+    ghost lawful: { CodingLaws coding };
+
     // Whether numbers stand for no value.
     fn is_flawed(numbers: Self::Numbers) -> bool
         ensures { result ≡ coding.flawed numbers };
@@ -105,6 +108,8 @@ impl<K: Kind> Crossing for Plain<K> {
 
     ghost coding = { plain_coding };
 
+    ghost lawful = { plain_lawful };
+
     fn is_flawed(_numbers: K) -> bool {
         false
     }
@@ -139,6 +144,8 @@ impl Crossing for Outcomes {
     type Numbers = OutcomeNumbers;
 
     ghost coding = { outcome_coding };
+
+    ghost lawful = { outcome_lawful };
 
     fn is_flawed(numbers: OutcomeNumbers) -> bool {
         numbers.is_flawed()
