@@ -74,7 +74,7 @@ fn read_step<'a, K: Value>(heap: Global, cursor: &mut Cursor<'a>) -> Result<Step
     ensures { Onward cursor.old cursor.new }
 {
     let start = cursor.bad();
-    let from = cursor.at();
+    let from = cursor.at;
     let op = read_op(heap, cursor)?;
     let text = cursor.since(from);
     if cursor.take(b'>') {

@@ -4,6 +4,6 @@ ghost use Rattle.std.specs.Prelude.{◌≤◌, length};
 #[derive(Drop)]
 pub struct Cursor<'a> {
     pub(crate) text: &'a str,
-    pub(crate) at: usize,
+    pub at: usize,
     ghost within: { at ≤ length text.now },
 }

@@ -1,7 +1,7 @@
 // The steps of a cursor: none goes backward.
 // `Onward` stands at each: it relates two moments of a cursor, which no invariant of one moment can.
 // `IsCharBoundary` is a premise and no ghost field: `take` and `run` go by bytes, so they may stop inside a character.
-ghost use Rattle.std.specs.Prelude.{◌≡◌, ◌≢◌, ℕ, List, [], ◌∷◌, ◌++◌, drop, ◌+◌, ◌-◌, ◌^◌, ◌<◌, ◌≤◌, T, false, true, length, IfOk, IfErr, if◌then◌else◌, Ok, OnOk, MatchResult, decimal, nat_le, slice_get, slice_index, slice_range};
+ghost use Rattle.std.specs.Prelude.{◌≡◌, ◌≢◌, ℕ, List, [], ◌∷◌, ◌++◌, drop, ◌+◌, ◌^◌, ◌<◌, ◌≤◌, T, false, true, length, IfOk, IfErr, if◌then◌else◌, Ok, OnOk, MatchResult, decimal, nat_le, slice_get, slice_index, slice_range};
 ghost use Rattle.std.specs.Int.{IsInRange};
 ghost use Rattle.std.specs.Str.{IsCharBoundary, IsUtf8};
 ghost use Rattle.std.specs.Range.{range_inclusive_start, range_inclusive_end, range_inclusive_exhausted};
@@ -51,12 +51,6 @@ impl<'a> Cursor<'a> {
         Cursor { text, at: 0 }
     }
 
-    pub fn at(&self) -> usize
-        ensures { result ≡ self.now.at }
-    {
-        self.at
-    }
-
     // The column of this place, as where reading stopped.
     pub fn bad(&self) -> Bad
         ensures { result.column ≡ self.now.at + 1 }
@@ -66,15 +60,8 @@ impl<'a> Cursor<'a> {
         }
     }
 
-    // How many bytes are left.
-    pub fn left(&self) -> usize
-        ensures { result ≡ length self.now.text.now - self.now.at }
-    {
-        self.text.len() - self.at
-    }
-
     // The next byte.
-    pub fn peek(&self) -> Option<u8>
+    fn peek(&self) -> Option<u8>
         ensures { result ≡ slice_get self.now.text.now self.now.at }
     {
         self.text.as_bytes().get(self.at).copied()
