@@ -29,7 +29,7 @@ use Rattle.wire.specs.Stops.{first_of, stopped, refused, told}
 use Rattle.wire.specs.Lists.{mark_flaw, marks_of, pairs_of, span_of, over}
 use Rattle.wire.specs.Functions.{function_flaw, choosing, ranking_of, fractional_of}
 use Rattle.wire.specs.Kinds.{Coding}
-use Rattle.wire.specs.Slots.{LentSlots, put_lent, lent_count}
+use Rattle.wire.specs.Slots.{LentSlots, LentFilled, put_lent, lent_count}
 use Rattle.wire.specs.Ends.{Ends, told_stop}
 
 -- a partition as C lends it
@@ -99,6 +99,11 @@ abbrev pub CellsCall : {V N : Type 0} → Coding V N → (V → V → Bool) → 
 CellsCall k same f default x before after t =
     Ends told_stop (cells_stop k same f default x (lent_count before)) before after t
     ((t ≡ told (Ok 0)) × (after ≡ chosen_left k (choosing f (k.decoded default)) (handed_input k x) before))
+
+-- what the lists hold after one that was not refused, place by place
+abbrev pub CellsFilled : {V N : Type 0} → Coding V N → Function → N → Handed N → LentSlots N → LentSlots N → Told → Type 0
+CellsFilled {V} k f default x before after t =
+    t.refused ≡ 0 → (e : Chosen V) → choosing f (k.decoded default) ≡ Ok e → LentFilled k.encoded (chosen_answers e (handed_input k x)) (row_count (handed_input k x)) before after
 
 -- the check of a whole partition that refuses a function of numbers
 abbrev pub ranking_refusal : {V : Type 0} → (V → V → Bool) → Ranking → Input V → ℕ → Option Fault

@@ -5,10 +5,11 @@ ghost use Rattle.partition.specs.Table.{input, row_count, whole_refusal};
 ghost use Rattle.evaluator.specs.Meaning.{WholeCall, partition};
 ghost use Rattle.wire.specs.Ends.{Ends};
 ghost use Rattle.wire.specs.Functions.{choosing, ranking_of, fractional_of};
+ghost use Rattle.wire.specs.Kinds.{CodingLaws};
 ghost use Rattle.wire.specs.Lists.{over, span_of, pairs_of};
 ghost use Rattle.wire.specs.Slots.{LentSlots, put_lent, lent_count};
 ghost use Rattle.wire.specs.Stops.{first_of, refused};
-ghost use Rattle.wire.specs.Whole.{handed, handed_input, read_stop, chosen_refusal, chosen_answers, chosen_left, cells_stop, CellsCall, number_family, ranking_refusal, ranking_answers, NumbersCall, fraction_family, fractional_answers, FractionsCall, peers_of, groups_stop, GroupsCall};
+ghost use Rattle.wire.specs.Whole.{handed, handed_input, read_stop, chosen_refusal, chosen_answers, chosen_left, cells_stop, CellsCall, CellsFilled, number_family, ranking_refusal, ranking_answers, NumbersCall, fraction_family, fractional_answers, FractionsCall, peers_of, groups_stop, GroupsCall};
 
 use crate::function::{CELLS, Chosen, FRACTIONS, Fractional, Function, NUMBERS, Ranking};
 use crate::kinds::{Crossing, read_default, read_values};
@@ -129,7 +130,9 @@ pub fn cells<C: Crossing>(
     values: &mut [C::Numbers],
     marks: &mut [u8],
 ) -> Told
-    ensures { CellsCall C.Crossing.coding C.Value.Kind.same function.now default (handed lent.now) (record { values = values.entry.now; marks = marks.old }) (record { values = values.exit.now; marks = marks.new }) result }
+    ensures coding { CodingLaws C.Crossing.coding }
+    ensures filled { CellsFilled C.Crossing.coding function.now default (handed lent.now) (record { values = values.entry.now; marks = marks.old }) (record { values = values.exit.now; marks = marks.new }) result }
+    ensures call { CellsCall C.Crossing.coding C.Value.Kind.same function.now default (handed lent.now) (record { values = values.entry.now; marks = marks.old }) (record { values = values.exit.now; marks = marks.new }) result }
 {
     Told::of_unit(try_cells::<C>(heap, function, default, lent, values, marks))
 }
