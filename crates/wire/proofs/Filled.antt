@@ -1,5 +1,5 @@
 -- Lent lists, after answers were put in their places.
-use Rattle.std.proofs.Common.{◌≡◌, ◌⊎◌, ℕ, Bool, true, false, zero, suc, ◌<◌, ◌≤◌, ◌≢◌, get_or, set, Some, None, Ok, Err, Option, Result, sym, refl, ap, ◌∙◌, subst, ⊎_elim, arith, length-set, get_or-set_other, get_or-set_same}
+use Rattle.std.proofs.Common.{◌≡◌, ℕ, Bool, true, false, zero, suc, ◌<◌, ◌≤◌, ◌≢◌, get_or, set, Some, None, Ok, Option, sym, refl, ap, ◌∙◌, subst, ⊎_elim, arith, length-set, get_or-set_other, get_or-set_same}
 use Rattle.std.proofs.lemmas.Bool.{cases_eq}
 use Rattle.column.specs.declared.fault.Fault.{Fault}
 use Rattle.column.specs.Slots.{written}
@@ -85,7 +85,7 @@ module _ {V N : Type 0} (k : Coding V N) (same : V → V → Bool) (f : Function
   left_so : (e : Chosen V) → choosing f (k.decoded default) ≡ Ok e → cells_stop k same f default x (lent_count before) ≡ None → after ≡ chosen_left k (choosing f (k.decoded default)) (handed_input k x) before → LentFilled k.encoded (chosen_answers e (handed_input k x)) (row_count (handed_input k x)) before after
   left_so e q h l =
       let c : chosen_stop same (Ok e) (handed_input k x) (lent_count before) ≡ None =
-          sym (ap (λ z. chosen_stop same z (handed_input k x) (lent_count before)) q) ∙ second (stopped stop.Function (default_flaw k default)) _ (second (read_stop k cell_family f x.values x.marks) _ h) in
+      sym (ap (λ z. chosen_stop same z (handed_input k x) (lent_count before)) q) ∙ second (stopped stop.Function (default_flaw k default)) _ (second (read_stop k cell_family f x.values x.marks) _ h) in
       subst (LentFilled k.encoded (chosen_answers e (handed_input k x)) (row_count (handed_input k x)) before) (sym (l ∙ ap (λ z. chosen_left k z (handed_input k x) before) q))
       (written_lent k.encoded (chosen_answers e (handed_input k x)) (row_count (handed_input k x)) before (has_room same e (handed_input k x) (lent_count before) c))
 
