@@ -20,14 +20,18 @@ fn kit() -> Option<PathBuf> {
 fn main() {
     let here = PathBuf::from(env!("CARGO_MANIFEST_DIR"));
     let library = folder("CAPI_LIB", &here.join("../../crates/capi/out"));
-    let heap = folder("RATTLE_C", &kit().unwrap_or_else(|| PathBuf::from("/opt/rattle/c")));
+    let heap = folder("RATTLE_C", &kit().unwrap_or_default());
     println!("cargo:rustc-check-cfg=cfg(linked)");
-    for (dir, name) in [(&library, "capi"), (&heap, "libc_c")] {
-        println!("cargo:rerun-if-changed={}", dir.join(format!("lib{name}.a")).display());
-        println!("cargo:rustc-link-search=native={}", dir.display());
-        println!("cargo:rustc-link-lib=static:-bundle={name}");
+    let archives = [(&library, "capi"), (&heap, "libc_c")];
+    let file = |(dir, name): (&PathBuf, &str)| dir.join(format!("lib{name}.a"));
+    for archive in archives {
+        println!("cargo:rerun-if-changed={}", file(archive).display());
     }
-    if library.join("libcapi.a").is_file() && heap.join("liblibc_c.a").is_file() {
+    if archives.into_iter().all(|archive| file(archive).is_file()) {
+        for (dir, name) in archives {
+            println!("cargo:rustc-link-search=native={}", dir.display());
+            println!("cargo:rustc-link-lib=static:-bundle={name}");
+        }
         println!("cargo:rustc-cfg=linked");
     }
 }

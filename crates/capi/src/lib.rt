@@ -3,8 +3,12 @@
 #![tactic(auto)]
 
 ghost use Rattle.column.specs.Kinds.{same_instant, same_pseudonym, same_code, same_outcome};
-ghost use Rattle.wire.specs.Kinds.{plain_coding, outcome_coding, same_instant_code};
-ghost use Rattle.wire.specs.Whole.{CellsCall, NumbersCall, FractionsCall, GroupsCall};
+ghost use Rattle.column.specs.declared.kind.Instant.{Instant};
+ghost use Rattle.column.specs.declared.kind.Pseudonym.{Pseudonym};
+ghost use Rattle.column.specs.declared.kind.CollegeCode.{CollegeCode};
+ghost use Rattle.wire.specs.declared.kinds.InstantCode.{InstantCode};
+ghost use Rattle.wire.specs.Kinds.{CodingLaws, plain_coding, outcome_coding, same_instant_code};
+ghost use Rattle.wire.specs.Whole.{CellsCall, CellsFilled, NumbersCall, FractionsCall, GroupsCall};
 ghost use Rattle.wire.specs.Runs.{RunCellsCall, RunNumbersCall};
 
 use column::kind::{CollegeCode, Instant, Pseudonym};
@@ -28,7 +32,9 @@ pub extern "C" fn bodkinfawn_instant_cells(
     answers: &mut [Instant],
     answer_marks: &mut [u8],
 ) -> Told
-    ensures { CellsCall plain_coding same_instant function.now default (record { values = values.now; marks = marks.now; frames = frames.now; groups = groups.now }) (record { values = answers.old; marks = answer_marks.old }) (record { values = answers.new; marks = answer_marks.new }) result }
+    ensures coding { CodingLaws {V = Instant} {N = Instant} plain_coding }
+    ensures filled { CellsFilled plain_coding function.now default (record { values = values.now; marks = marks.now; frames = frames.now; groups = groups.now }) (record { values = answers.old; marks = answer_marks.old }) (record { values = answers.new; marks = answer_marks.new }) result }
+    ensures call { CellsCall plain_coding same_instant function.now default (record { values = values.now; marks = marks.now; frames = frames.now; groups = groups.now }) (record { values = answers.old; marks = answer_marks.old }) (record { values = answers.new; marks = answer_marks.new }) result }
 {
     let lent = Lent {
         values,
@@ -158,7 +164,9 @@ pub extern "C" fn bodkinfawn_pseudonym_cells(
     answers: &mut [Pseudonym],
     answer_marks: &mut [u8],
 ) -> Told
-    ensures { CellsCall plain_coding same_pseudonym function.now default (record { values = values.now; marks = marks.now; frames = frames.now; groups = groups.now }) (record { values = answers.old; marks = answer_marks.old }) (record { values = answers.new; marks = answer_marks.new }) result }
+    ensures coding { CodingLaws {V = Pseudonym} {N = Pseudonym} plain_coding }
+    ensures filled { CellsFilled plain_coding function.now default (record { values = values.now; marks = marks.now; frames = frames.now; groups = groups.now }) (record { values = answers.old; marks = answer_marks.old }) (record { values = answers.new; marks = answer_marks.new }) result }
+    ensures call { CellsCall plain_coding same_pseudonym function.now default (record { values = values.now; marks = marks.now; frames = frames.now; groups = groups.now }) (record { values = answers.old; marks = answer_marks.old }) (record { values = answers.new; marks = answer_marks.new }) result }
 {
     let lent = Lent {
         values,
@@ -288,7 +296,9 @@ pub extern "C" fn bodkinfawn_code_cells(
     answers: &mut [CollegeCode],
     answer_marks: &mut [u8],
 ) -> Told
-    ensures { CellsCall plain_coding same_code function.now default (record { values = values.now; marks = marks.now; frames = frames.now; groups = groups.now }) (record { values = answers.old; marks = answer_marks.old }) (record { values = answers.new; marks = answer_marks.new }) result }
+    ensures coding { CodingLaws {V = CollegeCode} {N = CollegeCode} plain_coding }
+    ensures filled { CellsFilled plain_coding function.now default (record { values = values.now; marks = marks.now; frames = frames.now; groups = groups.now }) (record { values = answers.old; marks = answer_marks.old }) (record { values = answers.new; marks = answer_marks.new }) result }
+    ensures call { CellsCall plain_coding same_code function.now default (record { values = values.now; marks = marks.now; frames = frames.now; groups = groups.now }) (record { values = answers.old; marks = answer_marks.old }) (record { values = answers.new; marks = answer_marks.new }) result }
 {
     let lent = Lent {
         values,
@@ -418,7 +428,9 @@ pub extern "C" fn bodkinfawn_outcome_cells(
     answers: &mut [OutcomeNumbers],
     answer_marks: &mut [u8],
 ) -> Told
-    ensures { CellsCall outcome_coding same_outcome function.now default (record { values = values.now; marks = marks.now; frames = frames.now; groups = groups.now }) (record { values = answers.old; marks = answer_marks.old }) (record { values = answers.new; marks = answer_marks.new }) result }
+    ensures coding { CodingLaws outcome_coding }
+    ensures filled { CellsFilled outcome_coding function.now default (record { values = values.now; marks = marks.now; frames = frames.now; groups = groups.now }) (record { values = answers.old; marks = answer_marks.old }) (record { values = answers.new; marks = answer_marks.new }) result }
+    ensures call { CellsCall outcome_coding same_outcome function.now default (record { values = values.now; marks = marks.now; frames = frames.now; groups = groups.now }) (record { values = answers.old; marks = answer_marks.old }) (record { values = answers.new; marks = answer_marks.new }) result }
 {
     let lent = Lent {
         values,
@@ -548,7 +560,9 @@ pub extern "C" fn bodkinfawn_pair_cells(
     answers: &mut [InstantCode],
     answer_marks: &mut [u8],
 ) -> Told
-    ensures { CellsCall plain_coding same_instant_code function.now default (record { values = values.now; marks = marks.now; frames = frames.now; groups = groups.now }) (record { values = answers.old; marks = answer_marks.old }) (record { values = answers.new; marks = answer_marks.new }) result }
+    ensures coding { CodingLaws {V = InstantCode} {N = InstantCode} plain_coding }
+    ensures filled { CellsFilled plain_coding function.now default (record { values = values.now; marks = marks.now; frames = frames.now; groups = groups.now }) (record { values = answers.old; marks = answer_marks.old }) (record { values = answers.new; marks = answer_marks.new }) result }
+    ensures call { CellsCall plain_coding same_instant_code function.now default (record { values = values.now; marks = marks.now; frames = frames.now; groups = groups.now }) (record { values = answers.old; marks = answer_marks.old }) (record { values = answers.new; marks = answer_marks.new }) result }
 {
     let lent = Lent {
         values,

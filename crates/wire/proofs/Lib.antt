@@ -1,4 +1,5 @@
 pub mod Ends
+pub mod Filled
 pub mod Flaws
 pub mod Fronts
 pub mod Puts

@@ -1,6 +1,6 @@
 -- The laws of the two codings.
-use Rattle.std.specs.Prelude.{◌≡◌, ℕ, zero, ◌+◌, suc, Bool, true, false, cond, not, ◌==◌, nat_lt, List, [], ◌∷◌, length, position, map, None, Some, Option, refl}
-use Rattle.std.proofs.Common.{sym, ◌∙◌, ap, arith}
+use Rattle.std.specs.Prelude.{◌≡◌, ℕ, zero, suc, Bool, true, false, cond, not, ◌==◌, List, [], ◌∷◌, length, position, None, Some, Option, refl}
+use Rattle.std.proofs.Common.{sym, ap, arith}
 use Rattle.std.proofs.lemmas.Bool.{le-ltb, lt-ltb, eqb-true}
 use Rattle.std.proofs.lemmas.List.{map-id}
 use Rattle.std.specs.List.{prefix_len}
@@ -8,7 +8,7 @@ use Rattle.column.specs.declared.kind.LoginOutcome.{LoginOutcome}
 use Rattle.column.specs.declared.kind.LoginOutcome.TheVariants.{Granted, Refused, TimedOut}
 use Rattle.wire.specs.declared.kinds.OutcomeNumbers.{OutcomeNumbers}
 use Rattle.wire.specs.Outcomes.{numbers_of, flawed, outcome_of}
-use Rattle.wire.specs.Kinds.{Coding, CodingLaws, plain_coding, outcome_coding}
+use Rattle.wire.specs.Kinds.{CodingLaws, plain_coding, outcome_coding}
 
 all_pass : {V : Type 0} (vs : List V) → prefix_len (λ (v : V). true) vs ≡ length vs
 all_pass [] = refl

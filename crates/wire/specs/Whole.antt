@@ -29,7 +29,7 @@ use Rattle.wire.specs.Stops.{first_of, stopped, refused, told}
 use Rattle.wire.specs.Lists.{mark_flaw, marks_of, pairs_of, span_of, over}
 use Rattle.wire.specs.Functions.{function_flaw, choosing, ranking_of, fractional_of}
 use Rattle.wire.specs.Kinds.{Coding}
-use Rattle.wire.specs.Slots.{LentSlots, put_lent, lent_count}
+use Rattle.wire.specs.Slots.{LentSlots, LentFilled, put_lent, lent_count}
 use Rattle.wire.specs.Ends.{Ends, told_stop}
 
 -- a partition as C lends it
@@ -94,11 +94,20 @@ cells_stop k same f default x slots =
     first_of (read_stop k cell_family f x.values x.marks)
     (first_of (stopped stop.Function (default_flaw k default)) (chosen_stop same (choosing f (k.decoded default)) (handed_input k x) slots))
 
--- what a call for cells tells and leaves
+-- what a call for cells gives and leaves; here as below `error` is what is given of a stop, and `ok` of a call that is not stopped
+abbrev pub CellsEnd : {V N R : Type 0} → (Stop → R) → R → Coding V N → (V → V → Bool) → Function → N → Handed N → LentSlots N → LentSlots N → R → Type 0
+CellsEnd error ok k same f default x before after r =
+    Ends error (cells_stop k same f default x (lent_count before)) before after r
+    ((r ≡ ok) × (after ≡ chosen_left k (choosing f (k.decoded default)) (handed_input k x) before))
+
+-- as C is told
 abbrev pub CellsCall : {V N : Type 0} → Coding V N → (V → V → Bool) → Function → N → Handed N → LentSlots N → LentSlots N → Told → Type 0
-CellsCall k same f default x before after t =
-    Ends told_stop (cells_stop k same f default x (lent_count before)) before after t
-    ((t ≡ told (Ok 0)) × (after ≡ chosen_left k (choosing f (k.decoded default)) (handed_input k x) before))
+CellsCall k same f default x before after t = CellsEnd told_stop (told (Ok 0)) k same f default x before after t
+
+-- what the lists hold after one that was not refused, place by place
+abbrev pub CellsFilled : {V N : Type 0} → Coding V N → Function → N → Handed N → LentSlots N → LentSlots N → Told → Type 0
+CellsFilled {V} k f default x before after t =
+    t.refused ≡ 0 → (e : Chosen V) → choosing f (k.decoded default) ≡ Ok e → LentFilled k.encoded (chosen_answers e (handed_input k x)) (row_count (handed_input k x)) before after
 
 -- the check of a whole partition that refuses a function of numbers
 abbrev pub ranking_refusal : {V : Type 0} → (V → V → Bool) → Ranking → Input V → ℕ → Option Fault
@@ -110,22 +119,30 @@ abbrev pub ranking_answers : {V : Type 0} → (V → V → Bool) → Ranking →
 ranking_answers same (Rank type) x = (rank_meaning same (new_rank type)).answer (partition false x)
 ranking_answers same RowNumber x = (row_number_meaning new_row_number).answer (partition false x)
 
--- what a call for numbers tells and leaves
+-- what a call for numbers gives and leaves
+abbrev pub NumbersEnd : {V N R : Type 0} → (Stop → R) → R → Coding V N → (V → V → Bool) → Function → Handed N → List ℕ → List ℕ → R → Type 0
+NumbersEnd error ok k same f x before after r =
+    Ends error (first_of (read_stop k number_family f x.values x.marks) (refused (ranking_refusal same (ranking_of f) (handed_input k x) (length before)))) before after r
+    ((r ≡ ok) × (after ≡ written (λ s i a. slice_set s i a) (ranking_answers same (ranking_of f) (handed_input k x)) before (row_count (handed_input k x))))
+
+-- as C is told
 abbrev pub NumbersCall : {V N : Type 0} → Coding V N → (V → V → Bool) → Function → Handed N → List ℕ → List ℕ → Told → Type 0
-NumbersCall k same f x before after t =
-    Ends told_stop (first_of (read_stop k number_family f x.values x.marks) (refused (ranking_refusal same (ranking_of f) (handed_input k x) (length before)))) before after t
-    ((t ≡ told (Ok 0)) × (after ≡ written (λ s i a. slice_set s i a) (ranking_answers same (ranking_of f) (handed_input k x)) before (row_count (handed_input k x))))
+NumbersCall k same f x before after t = NumbersEnd told_stop (told (Ok 0)) k same f x before after t
 
 -- the answers of a function of fractions
 abbrev pub fractional_answers : {V : Type 0} → (V → V → Bool) → Fractional → Input V → ℕ → Float
 fractional_answers same PercentRank x = (fraction_meaning percent_rank same).answer (partition false x)
 fractional_answers same CumeDist x = (fraction_meaning cume_dist same).answer (partition false x)
 
--- what a call for fractions tells and leaves
+-- what a call for fractions gives and leaves
+abbrev pub FractionsEnd : {V N R : Type 0} → (Stop → R) → R → Coding V N → (V → V → Bool) → Function → Handed N → List Float → List Float → R → Type 0
+FractionsEnd error ok k same f x before after r =
+    Ends error (first_of (read_stop k fraction_family f x.values x.marks) (refused (whole_refusal same false true (handed_input k x) (length before)))) before after r
+    ((r ≡ ok) × (after ≡ written (λ s i a. slice_set s i a) (fractional_answers same (fractional_of f) (handed_input k x)) before (row_count (handed_input k x))))
+
+-- as C is told
 abbrev pub FractionsCall : {V N : Type 0} → Coding V N → (V → V → Bool) → Function → Handed N → List Float → List Float → Told → Type 0
-FractionsCall k same f x before after t =
-    Ends told_stop (first_of (read_stop k fraction_family f x.values x.marks) (refused (whole_refusal same false true (handed_input k x) (length before)))) before after t
-    ((t ≡ told (Ok 0)) × (after ≡ written (λ s i a. slice_set s i a) (fractional_answers same (fractional_of f) (handed_input k x)) before (row_count (handed_input k x))))
+FractionsCall k same f x before after t = FractionsEnd told_stop (told (Ok 0)) k same f x before after t
 
 -- the peer groups of a column
 abbrev pub peers_of : {V N : Type 0} → Coding V N → (V → V → Bool) → List N → List ℕ → List Group
@@ -137,8 +154,12 @@ groups_stop k same values marks places =
     first_of (stopped stop.Mark (mark_flaw marks)) (first_of (stopped stop.Value (k.flaws values))
     (refused (or_else (column_refusal (length (k.decodes values)) (length (marks_of marks))) (places_refusal (length (peers_of k same values marks)) places))))
 
--- what a call for peer groups tells and leaves
+-- what a call for peer groups gives and leaves
+abbrev pub GroupsEnd : {V N R : Type 0} → (Stop → R) → (ℕ → R) → Coding V N → (V → V → Bool) → List N → List ℕ → List Span → List Span → R → Type 0
+GroupsEnd error ok k same values marks before after r =
+    Ends error (groups_stop k same values marks (length before)) before after r
+    ((r ≡ ok (length (peers_of k same values marks))) × (after ≡ over (map span_of (peers_of k same values marks)) before))
+
+-- as C is told
 abbrev pub GroupsCall : {V N : Type 0} → Coding V N → (V → V → Bool) → List N → List ℕ → List Span → List Span → Told → Type 0
-GroupsCall k same values marks before after t =
-    Ends told_stop (groups_stop k same values marks (length before)) before after t
-    ((t ≡ told (Ok (length (peers_of k same values marks)))) × (after ≡ over (map span_of (peers_of k same values marks)) before))
+GroupsCall k same values marks before after t = GroupsEnd told_stop (λ n. told (Ok n)) k same values marks before after t

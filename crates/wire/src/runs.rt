@@ -1,16 +1,14 @@
 // Runs, each in one call.
 ghost use Rattle.std.specs.Prelude.{◌≡◌, ℕ, ◌<◌, ◌≤◌, List, length, map, slice_set, Ok, Err, ◌==◌, MatchResult};
 ghost use Rattle.replay.specs.Act.{progress_of, total_now};
-ghost use Rattle.replay.specs.declared.calls.Call.{Call};
-ghost use Rattle.wire.specs.declared.runs.Noted.{Noted};
 ghost use Rattle.wire.specs.Calls.{calls_in};
-ghost use Rattle.wire.specs.Ends.{Ends, told_stop};
+ghost use Rattle.wire.specs.Ends.{told_stop};
 ghost use Rattle.wire.specs.Functions.{choosing, ranking_of};
 ghost use Rattle.wire.specs.Lists.{over};
 ghost use Rattle.wire.specs.Slots.{LentSlots, put_lent, lent_count};
 ghost use Rattle.wire.specs.Stops.{first_of, refused, told};
 ghost use Rattle.wire.specs.Whole.{number_family};
-ghost use Rattle.wire.specs.Runs.{noted_refusal, noted, put_entries, put_outcome, ended_at, RunLists, Ran, room_refusal, scripted, CallsOf, script_stop, ChosenRan, MadeRan, run_stop, RankingRan, ending_left, RunCellsCall, RunNumbersCall};
+ghost use Rattle.wire.specs.Runs.{noted_refusal, noted, put_entries, put_outcome, ended_at, PlayEnds, RunEnds, Ran, room_refusal, scripted, CallsOf, script_stop, ChosenRan, MadeRan, run_stop, RankingRan, ending_left, RunCellsCall, RunNumbersCall};
 
 use crate::function::{CELLS, Chosen, Function, NUMBERS, Ranking};
 use crate::kinds::{Crossing, read_default};
@@ -134,7 +132,7 @@ fn play<E: RowEvaluator + Drop, O: Output<E::Answer>>(
     outcomes: &mut [Noted],
     out: &mut O,
 ) -> Result<Noted, Stop>
-    ensures ends { Ends {S = RunLists O.Output.Slots} Err (refused (room_refusal (length calls.now) (length outcomes.old) (O.Output.size (O.Output.slots out.old)))) (record { outcomes = outcomes.old; answers = O.Output.slots out.old }) (record { outcomes = outcomes.new; answers = O.Output.slots out.new }) result ((last : Noted) × (result ≡ Ok last) × Ran E.Evaluator.meaning E.RowEvaluator.stepped E.RowEvaluator.settling E.Evaluator.renewed evaluator.now E.Evaluator.WANTS_FRAMES from_zero O.Output.stored calls.now (record { outcomes = outcomes.old; answers = O.Output.slots out.old }) (record { outcomes = outcomes.new; answers = O.Output.slots out.new }) last) }
+    ensures ends { PlayEnds {S = O.Output.Slots} O.Output.size (length calls.now) (record { outcomes = outcomes.old; answers = O.Output.slots out.old }) (record { outcomes = outcomes.new; answers = O.Output.slots out.new }) result (Ran E.Evaluator.meaning E.RowEvaluator.stepped E.RowEvaluator.settling E.Evaluator.renewed evaluator.now E.Evaluator.WANTS_FRAMES from_zero O.Output.stored calls.now) }
     ensures place { O.Output.place out.old out.new }
 {
     let room = outcomes.len().min(out.len());
@@ -155,7 +153,7 @@ fn play_cells<C: Crossing, E: RowEvaluator<Value = C::Value, Answer = Option<C::
     values: &mut [C::Numbers],
     marks: &mut [u8],
 ) -> Result<Noted, Stop>
-    ensures { Ends {S = RunLists (LentSlots C.Numbers)} Err (refused (room_refusal (length calls.now) (length outcomes.old) (lent_count (record { values = values.entry.now; marks = marks.old })))) (record { outcomes = outcomes.old; answers = record { values = values.entry.now; marks = marks.old } }) (record { outcomes = outcomes.new; answers = record { values = values.exit.now; marks = marks.new } }) result ((last : Noted) × (result ≡ Ok last) × Ran E.Evaluator.meaning E.RowEvaluator.stepped E.RowEvaluator.settling E.Evaluator.renewed evaluator.now E.Evaluator.WANTS_FRAMES from_zero (put_lent C.Crossing.coding.encoded) calls.now (record { outcomes = outcomes.old; answers = record { values = values.entry.now; marks = marks.old } }) (record { outcomes = outcomes.new; answers = record { values = values.exit.now; marks = marks.new } }) last) }
+    ensures { PlayEnds {S = LentSlots C.Numbers} lent_count (length calls.now) (record { outcomes = outcomes.old; answers = record { values = values.entry.now; marks = marks.old } }) (record { outcomes = outcomes.new; answers = record { values = values.exit.now; marks = marks.new } }) result (Ran E.Evaluator.meaning E.RowEvaluator.stepped E.RowEvaluator.settling E.Evaluator.renewed evaluator.now E.Evaluator.WANTS_FRAMES from_zero (put_lent C.Crossing.coding.encoded) calls.now) }
 {
     let mut out = LentCells {
         values,
@@ -174,7 +172,7 @@ fn play_chosen<C: Crossing>(
     values: &mut [C::Numbers],
     marks: &mut [u8],
 ) -> Result<Noted, Stop>
-    ensures { Ends {S = RunLists (LentSlots C.Numbers)} Err (refused (room_refusal (length calls.now) (length outcomes.old) (lent_count (record { values = values.entry.now; marks = marks.old })))) (record { outcomes = outcomes.old; answers = record { values = values.entry.now; marks = marks.old } }) (record { outcomes = outcomes.new; answers = record { values = values.exit.now; marks = marks.new } }) result ((last : Noted) × (result ≡ Ok last) × ChosenRan chosen.now from_zero (put_lent C.Crossing.coding.encoded) calls.now (record { outcomes = outcomes.old; answers = record { values = values.entry.now; marks = marks.old } }) (record { outcomes = outcomes.new; answers = record { values = values.exit.now; marks = marks.new } }) last) }
+    ensures { PlayEnds {S = LentSlots C.Numbers} lent_count (length calls.now) (record { outcomes = outcomes.old; answers = record { values = values.entry.now; marks = marks.old } }) (record { outcomes = outcomes.new; answers = record { values = values.exit.now; marks = marks.new } }) result (ChosenRan chosen.now from_zero (put_lent C.Crossing.coding.encoded) calls.now) }
 {
     match chosen {
         Chosen::Shift(shift) => {
@@ -195,7 +193,7 @@ fn try_run_cells<C: Crossing>(
     values: &mut [C::Numbers],
     marks: &mut [u8],
 ) -> Result<Noted, Stop>
-    ensures { Ends {S = RunLists (LentSlots C.Numbers)} Err (run_stop C.Crossing.coding function.now default (scripted script.now) (length outcomes.old) (lent_count (record { values = values.entry.now; marks = marks.old }))) (record { outcomes = outcomes.old; answers = record { values = values.entry.now; marks = marks.old } }) (record { outcomes = outcomes.new; answers = record { values = values.exit.now; marks = marks.new } }) result ((last : Noted) × (result ≡ Ok last) × ((calls : List (Call C.Value)) × CallsOf C.Crossing.coding (scripted script.now) calls × MadeRan (choosing function.now (C.Crossing.coding.decoded default)) (function.now.from_zero == 1) (put_lent C.Crossing.coding.encoded) calls (record { outcomes = outcomes.old; answers = record { values = values.entry.now; marks = marks.old } }) (record { outcomes = outcomes.new; answers = record { values = values.exit.now; marks = marks.new } }) last)) }
+    ensures { RunEnds {V = C.Value} {S = LentSlots C.Numbers} (run_stop C.Crossing.coding function.now default (scripted script.now) (length outcomes.old) (lent_count (record { values = values.entry.now; marks = marks.old }))) (record { outcomes = outcomes.old; answers = record { values = values.entry.now; marks = marks.old } }) (record { outcomes = outcomes.new; answers = record { values = values.exit.now; marks = marks.new } }) result (CallsOf C.Crossing.coding (scripted script.now)) (MadeRan (choosing function.now (C.Crossing.coding.decoded default)) (function.now.from_zero == 1) (put_lent C.Crossing.coding.encoded)) }
 {
     let mut room = Vec::new(heap);
     let read = read_list::<C>(
@@ -262,7 +260,7 @@ fn play_numbers<E: RowEvaluator<Answer = u64> + Drop>(
     outcomes: &mut [Noted],
     list: &mut [u64],
 ) -> Result<Noted, Stop>
-    ensures { Ends {S = RunLists (List ℕ)} Err (refused (room_refusal (length calls.now) (length outcomes.old) (length list.old))) (record { outcomes = outcomes.old; answers = list.old }) (record { outcomes = outcomes.new; answers = list.new }) result ((last : Noted) × (result ≡ Ok last) × Ran E.Evaluator.meaning E.RowEvaluator.stepped E.RowEvaluator.settling E.Evaluator.renewed evaluator.now E.Evaluator.WANTS_FRAMES from_zero (λ s i a. slice_set s i a) calls.now (record { outcomes = outcomes.old; answers = list.old }) (record { outcomes = outcomes.new; answers = list.new }) last) }
+    ensures { PlayEnds {S = List ℕ} (λ s. length s) (length calls.now) (record { outcomes = outcomes.old; answers = list.old }) (record { outcomes = outcomes.new; answers = list.new }) result (Ran E.Evaluator.meaning E.RowEvaluator.stepped E.RowEvaluator.settling E.Evaluator.renewed evaluator.now E.Evaluator.WANTS_FRAMES from_zero (λ s i a. slice_set s i a) calls.now) }
 {
     let mut out = Numbers { list };
     play(heap, evaluator, from_zero, calls, outcomes, &mut out)
@@ -276,7 +274,7 @@ fn play_ranking<K: Kind>(
     outcomes: &mut [Noted],
     list: &mut [u64],
 ) -> Result<Noted, Stop>
-    ensures { Ends {S = RunLists (List ℕ)} Err (refused (room_refusal (length calls.now) (length outcomes.old) (length list.old))) (record { outcomes = outcomes.old; answers = list.old }) (record { outcomes = outcomes.new; answers = list.new }) result ((last : Noted) × (result ≡ Ok last) × RankingRan K.Kind.same ranking from_zero calls.now (record { outcomes = outcomes.old; answers = list.old }) (record { outcomes = outcomes.new; answers = list.new }) last) }
+    ensures { PlayEnds {S = List ℕ} (λ s. length s) (length calls.now) (record { outcomes = outcomes.old; answers = list.old }) (record { outcomes = outcomes.new; answers = list.new }) result (RankingRan K.Kind.same ranking from_zero calls.now) }
 {
     match ranking {
         Ranking::Rank(rank_type) => {
@@ -297,7 +295,7 @@ fn try_run_numbers<C: Crossing>(
     outcomes: &mut [Noted],
     answers: &mut [u64],
 ) -> Result<Noted, Stop>
-    ensures { Ends {S = RunLists (List ℕ)} Err (first_of (script_stop C.Crossing.coding number_family function.now (scripted script.now)) (refused (room_refusal (length (calls_in script.now.calls.now)) (length outcomes.old) (length answers.old)))) (record { outcomes = outcomes.old; answers = answers.old }) (record { outcomes = outcomes.new; answers = answers.new }) result ((last : Noted) × (result ≡ Ok last) × ((calls : List (Call C.Value)) × CallsOf C.Crossing.coding (scripted script.now) calls × RankingRan C.Value.Kind.same (ranking_of function.now) (function.now.from_zero == 1) calls (record { outcomes = outcomes.old; answers = answers.old }) (record { outcomes = outcomes.new; answers = answers.new }) last)) }
+    ensures { RunEnds {V = C.Value} {S = List ℕ} (first_of (script_stop C.Crossing.coding number_family function.now (scripted script.now)) (refused (room_refusal (length (calls_in script.now.calls.now)) (length outcomes.old) (length answers.old)))) (record { outcomes = outcomes.old; answers = answers.old }) (record { outcomes = outcomes.new; answers = answers.new }) result (CallsOf C.Crossing.coding (scripted script.now)) (RankingRan C.Value.Kind.same (ranking_of function.now) (function.now.from_zero == 1)) }
 {
     let mut room = Vec::new(heap);
     let read = read_list::<C>(

@@ -3,12 +3,12 @@ ghost use Rattle.std.specs.Prelude.{◌≡◌, ◌≤◌, false, true, length, m
 ghost use Rattle.column.specs.Slots.{written};
 ghost use Rattle.partition.specs.Table.{input, row_count, whole_refusal};
 ghost use Rattle.evaluator.specs.Meaning.{WholeCall, partition};
-ghost use Rattle.wire.specs.Ends.{Ends};
 ghost use Rattle.wire.specs.Functions.{choosing, ranking_of, fractional_of};
+ghost use Rattle.wire.specs.Kinds.{CodingLaws};
 ghost use Rattle.wire.specs.Lists.{over, span_of, pairs_of};
-ghost use Rattle.wire.specs.Slots.{LentSlots, put_lent, lent_count};
+ghost use Rattle.wire.specs.Slots.{put_lent, lent_count};
 ghost use Rattle.wire.specs.Stops.{first_of, refused};
-ghost use Rattle.wire.specs.Whole.{handed, handed_input, read_stop, chosen_refusal, chosen_answers, chosen_left, cells_stop, CellsCall, number_family, ranking_refusal, ranking_answers, NumbersCall, fraction_family, fractional_answers, FractionsCall, peers_of, groups_stop, GroupsCall};
+ghost use Rattle.wire.specs.Whole.{handed, handed_input, read_stop, chosen_refusal, chosen_answers, chosen_left, cells_stop, CellsEnd, CellsCall, CellsFilled, number_family, ranking_refusal, ranking_answers, NumbersEnd, NumbersCall, fraction_family, fractional_answers, FractionsEnd, FractionsCall, peers_of, groups_stop, GroupsEnd, GroupsCall};
 
 use crate::function::{CELLS, Chosen, FRACTIONS, Fractional, Function, NUMBERS, Ranking};
 use crate::kinds::{Crossing, read_default, read_values};
@@ -109,7 +109,7 @@ fn try_cells<C: Crossing>(
     values: &mut [C::Numbers],
     marks: &mut [u8],
 ) -> Result<(), Stop>
-    ensures { Ends {S = LentSlots C.Numbers} Err (cells_stop C.Crossing.coding C.Value.Kind.same function.now default (handed lent.now) (lent_count (record { values = values.entry.now; marks = marks.old }))) (record { values = values.entry.now; marks = marks.old }) (record { values = values.exit.now; marks = marks.new }) result ((result ≡ Ok tt) × (◌≡◌ {A = LentSlots C.Numbers} (record { values = values.exit.now; marks = marks.new }) (chosen_left C.Crossing.coding (choosing function.now (C.Crossing.coding.decoded default)) (handed_input C.Crossing.coding (handed lent.now)) (record { values = values.entry.now; marks = marks.old })))) }
+    ensures { CellsEnd Err (Ok tt) C.Crossing.coding C.Value.Kind.same function.now default (handed lent.now) (record { values = values.entry.now; marks = marks.old }) (record { values = values.exit.now; marks = marks.new }) result }
 {
     let mut room = Vec::new(heap);
     let read = read_list::<C>(heap, function, CELLS, lent.values, lent.marks, &mut room)?;
@@ -129,7 +129,9 @@ pub fn cells<C: Crossing>(
     values: &mut [C::Numbers],
     marks: &mut [u8],
 ) -> Told
-    ensures { CellsCall C.Crossing.coding C.Value.Kind.same function.now default (handed lent.now) (record { values = values.entry.now; marks = marks.old }) (record { values = values.exit.now; marks = marks.new }) result }
+    ensures coding { CodingLaws C.Crossing.coding }
+    ensures filled { CellsFilled C.Crossing.coding function.now default (handed lent.now) (record { values = values.entry.now; marks = marks.old }) (record { values = values.exit.now; marks = marks.new }) result }
+    ensures call { CellsCall C.Crossing.coding C.Value.Kind.same function.now default (handed lent.now) (record { values = values.entry.now; marks = marks.old }) (record { values = values.exit.now; marks = marks.new }) result }
 {
     Told::of_unit(try_cells::<C>(heap, function, default, lent, values, marks))
 }
@@ -153,7 +155,7 @@ fn try_numbers<C: Crossing>(
     lent: &Lent<'_, C::Numbers>,
     answers: &mut [u64],
 ) -> Result<(), Stop>
-    ensures { Ends Err (first_of (read_stop C.Crossing.coding number_family function.now lent.now.values.now lent.now.marks.now) (refused (ranking_refusal C.Value.Kind.same (ranking_of function.now) (handed_input C.Crossing.coding (handed lent.now)) (length answers.old)))) answers.old answers.new result ((result ≡ Ok tt) × (answers.new ≡ written (λ s i a. slice_set s i a) (ranking_answers C.Value.Kind.same (ranking_of function.now) (handed_input C.Crossing.coding (handed lent.now))) answers.old (row_count (handed_input C.Crossing.coding (handed lent.now))))) }
+    ensures { NumbersEnd Err (Ok tt) C.Crossing.coding C.Value.Kind.same function.now (handed lent.now) answers.old answers.new result }
 {
     let mut room = Vec::new(heap);
     let read = read_list::<C>(heap, function, NUMBERS, lent.values, lent.marks, &mut room)?;
@@ -193,7 +195,7 @@ fn try_fractions<C: Crossing>(
     lent: &Lent<'_, C::Numbers>,
     answers: &mut [f64],
 ) -> Result<(), Stop>
-    ensures { Ends Err (first_of (read_stop C.Crossing.coding fraction_family function.now lent.now.values.now lent.now.marks.now) (refused (whole_refusal C.Value.Kind.same false true (handed_input C.Crossing.coding (handed lent.now)) (length answers.old)))) answers.old answers.new result ((result ≡ Ok tt) × (answers.new ≡ written (λ s i a. slice_set s i a) (fractional_answers C.Value.Kind.same (fractional_of function.now) (handed_input C.Crossing.coding (handed lent.now))) answers.old (row_count (handed_input C.Crossing.coding (handed lent.now))))) }
+    ensures { FractionsEnd Err (Ok tt) C.Crossing.coding C.Value.Kind.same function.now (handed lent.now) answers.old answers.new result }
 {
     let mut room = Vec::new(heap);
     let read = read_list::<C>(
@@ -237,7 +239,7 @@ fn try_groups<C: Crossing>(
     marks: &[u8],
     spans: &mut [Span],
 ) -> Result<usize, Stop>
-    ensures { Ends Err (groups_stop C.Crossing.coding C.Value.Kind.same values.entry.now marks.now (length spans.old)) spans.old spans.new result ((result ≡ Ok (length (peers_of C.Crossing.coding C.Value.Kind.same values.entry.now marks.now))) × (spans.new ≡ over (map span_of (peers_of C.Crossing.coding C.Value.Kind.same values.entry.now marks.now)) spans.old)) }
+    ensures { GroupsEnd Err (λ n. Ok n) C.Crossing.coding C.Value.Kind.same values.entry.now marks.now spans.old spans.new result }
 {
     let marks = read_marks(heap, marks)?;
     let mut room = Vec::new(heap);
