@@ -70,6 +70,22 @@ pub fn argument(function: &Function) -> Option<i64> {
 }
 
 impl Case {
+    /// The function's name in SQL.
+    pub fn name(&self) -> &'static str {
+        match &self.function {
+            Function::Shift(shift) if shift.lead => "LEAD",
+            Function::Shift(_) => "LAG",
+            Function::First { .. } => "FIRST_VALUE",
+            Function::Last { .. } => "LAST_VALUE",
+            Function::Nth { .. } => "NTH_VALUE",
+            Function::Rank => "RANK",
+            Function::DenseRank => "DENSE_RANK",
+            Function::RowNumber => "ROW_NUMBER",
+            Function::PercentRank => "PERCENT_RANK",
+            Function::CumeDist => "CUME_DIST",
+        }
+    }
+
     pub fn nulls(&self) -> Nulls {
         match self.over {
             Over::Column(nulls) | Over::Frames(nulls, _) => nulls,
@@ -126,9 +142,9 @@ impl Case {
             None => 0.0,
         };
         let at_row = match &self.function {
-            Function::Last { .. } if ignoring => frame / 64.0 + frame * self.present(),
+            Function::Last { .. } if ignoring => frame / 12.0 + frame * self.present(),
             Function::Nth { .. } if ignoring && argument(&self.function) < Some(0) => {
-                frame / 64.0 + frame * self.present()
+                frame / 12.0 + frame * self.present()
             }
             _ if self.frames().is_some() && ignoring => frame / 64.0,
             Function::Shift(shift) if shift.ignoring && self.manner == Manner::ByRow => {
@@ -158,19 +174,7 @@ impl Case {
 impl fmt::Display for Case {
     /// The cells of a table that say what it is over.
     fn fmt(&self, f: &mut fmt::Formatter<'_>) -> fmt::Result {
-        let name = match &self.function {
-            Function::Shift(shift) if shift.lead => "LEAD",
-            Function::Shift(_) => "LAG",
-            Function::First { .. } => "FIRST_VALUE",
-            Function::Last { .. } => "LAST_VALUE",
-            Function::Nth { .. } => "NTH_VALUE",
-            Function::Rank => "RANK",
-            Function::DenseRank => "DENSE_RANK",
-            Function::RowNumber => "ROW_NUMBER",
-            Function::PercentRank => "PERCENT_RANK",
-            Function::CumeDist => "CUME_DIST",
-        };
-        write!(f, "{name}")?;
+        write!(f, "{}", self.name())?;
         if let Some(n) = argument(&self.function) {
             let sign = if n < 0 { "−" } else { "" };
             write!(f, " {sign}{}", grouped(n.unsigned_abs() as usize))?;

@@ -113,7 +113,10 @@ fn measure(case: &Case, inputs: &Inputs, budget: Duration) -> Cell {
     let column = match case.over {
         case::Over::Groups(_) => {
             of_groups = Column::of_groups(rows, case.group(rows));
-            spans = groups(rows, case.group(rows));
+            spans = match case.function.wants_groups() {
+                true => groups(rows, case.group(rows)),
+                false => vec![],
+            };
             &of_groups
         }
         _ => {

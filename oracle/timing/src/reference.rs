@@ -2,7 +2,7 @@
 
 use crate::case::{Case, Manner, argument};
 use crate::input::Column;
-use arrow::array::{ArrayRef, Float64Array, UInt64Array};
+use arrow::array::{ArrayRef, Float64Array, UInt64Array, UInt64Builder};
 use arrow::datatypes::DataType;
 use capi::Span;
 use datafusion_common::{Result, ScalarValue};
@@ -11,6 +11,7 @@ use harness::crate_side::{literal, make, udwf};
 use harness::lines::Argument;
 use std::hint::black_box;
 use std::ops::Range;
+use std::sync::Arc;
 
 /// An answer, fractions by their bits.
 pub type Answer = Option<u64>;
@@ -32,10 +33,6 @@ impl<'a> Reference<'a> {
         }
     }
 
-    fn rows(&self) -> usize {
-        self.values[0].len()
-    }
-
     fn evaluator(&self) -> Result<Box<dyn PartitionEvaluator>> {
         let function = &self.case.function;
         let argument = argument(function).map(Argument::Signed);
@@ -50,7 +47,7 @@ impl<'a> Reference<'a> {
         if self.case.manner == Manner::ByRow || evaluator.uses_window_frame() {
             return Ok(None);
         }
-        let rows = self.rows();
+        let rows = self.values[0].len();
         Ok(Some(if evaluator.include_rank() {
             evaluator.evaluate_all_with_rank(rows, &self.groups)?
         } else {
@@ -58,53 +55,45 @@ impl<'a> Reference<'a> {
         }))
     }
 
-    /// One answer after the other, each let go when it was looked at.
-    fn each(&self, mut see: impl FnMut(&ScalarValue)) -> Result<()> {
+    /// One answer after the other, put into an array by the cheapest builder that there is.
+    fn each(&self) -> Result<ArrayRef> {
         let mut evaluator = self.evaluator()?;
-        let rows = self.rows();
+        let rows = self.values[0].len();
+        let mut answers = UInt64Builder::with_capacity(rows);
         if evaluator.uses_window_frame() {
             for frame in self.frames {
                 let range = frame.start..frame.end;
-                see(&evaluator.evaluate(&self.values, &range)?);
+                let answer = evaluator.evaluate(&self.values, &range)?;
+                answers.append_option(number_of(&answer));
             }
         } else {
             for row in 0..rows {
                 let range = evaluator.get_range(row, rows)?;
-                see(&evaluator.evaluate(&self.values, &range)?);
+                let answer = evaluator.evaluate(&self.values, &range)?;
+                answers.append_option(number_of(&answer));
             }
         }
-        Ok(())
+        Ok(Arc::new(answers.finish()))
+    }
+
+    fn asked(&self) -> Result<ArrayRef> {
+        self.array()?.map_or_else(|| self.each(), Ok)
     }
 
     /// What is timed.
     pub fn run(&self) {
-        let array = self.array().expect("the crate answers");
-        match array {
-            Some(array) => drop(black_box(array)),
-            None => self
-                .each(|answer| {
-                    black_box(answer);
-                })
-                .expect("the crate answers"),
-        }
+        drop(black_box(self.asked().expect("the crate answers")));
     }
 
     pub fn answers(&self) -> Vec<Answer> {
-        if let Some(array) = self.array().expect("the crate answers") {
-            return answers_of(&array);
-        }
-        let mut answers = vec![];
-        self.each(|answer| answers.push(answer_of(answer)))
-            .expect("the crate answers");
-        answers
+        answers_of(&self.asked().expect("the crate answers"))
     }
 }
 
-fn answer_of(scalar: &ScalarValue) -> Answer {
+fn number_of(scalar: &ScalarValue) -> Option<u64> {
     match scalar {
         ScalarValue::UInt64(answer) => *answer,
-        ScalarValue::Float64(answer) => answer.map(f64::to_bits),
-        other => panic!("{other:?} is no answer"),
+        other => panic!("{other:?} is no number"),
     }
 }
 

@@ -59,6 +59,12 @@ impl Cell {
     }
 }
 
+fn spread(numbers: &[f64]) -> Option<(f64, f64)> {
+    let least = numbers.iter().copied().min_by(f64::total_cmp)?;
+    let most = numbers.iter().copied().max_by(f64::total_cmp)?;
+    Some((least, most))
+}
+
 struct Line {
     title: &'static str,
     case: Case,
@@ -114,13 +120,12 @@ impl Report {
         for (rows, copy) in self.sizes.iter().zip(&self.copies) {
             println!("- {} rows: {:.2}", grouped(*rows), copy * 1e9);
         }
+        self.print_summary();
+        self.print_fivefold();
+        self.print_differences();
         for table in tables {
             self.print_table(table);
         }
-        self.print_slower();
-        self.print_fivefold();
-        self.print_growth();
-        self.print_differences();
     }
 
     fn of<'a>(&'a self, title: &'a str) -> impl Iterator<Item = &'a Line> {
@@ -128,20 +133,26 @@ impl Report {
     }
 
     fn print_table(&self, table: &Table) {
-        if self.of(table.title).next().is_none() {
+        let lines: Vec<&Line> = self.of(table.title).collect();
+        let is_told = |size: &usize| {
+            let cells = lines.iter().filter_map(|line| line.cells.get(*size));
+            cells.into_iter().any(|cell| !matches!(cell, Cell::Absent))
+        };
+        let told: Vec<usize> = (0..self.sizes.len()).filter(is_told).collect();
+        if lines.is_empty() {
             return;
         }
         println!("\n### {}\n", table.title);
         print!("| {} |", table.heads);
-        for rows in self.sizes {
-            print!(" {} rows |", grouped(*rows));
+        for size in &told {
+            print!(" {} rows |", grouped(self.sizes[*size]));
         }
         let heads = table.heads.matches('|').count() + 1;
-        println!("\n|{}", "---|".repeat(heads + self.sizes.len()));
-        for line in self.of(table.title) {
+        println!("\n|{}", "---|".repeat(heads + told.len()));
+        for line in lines {
             print!("| {} |", line.case);
-            for (cell, copy) in line.cells.iter().zip(&self.copies) {
-                print!(" {} |", cell.text(*copy));
+            for size in &told {
+                print!(" {} |", line.cells[*size].text(self.copies[*size]));
             }
             println!();
         }
@@ -154,21 +165,46 @@ impl Report {
             .flat_map(move |line| cells(line).map(move |(cell, rows)| (line, *rows, cell)))
     }
 
-    fn print_slower(&self) {
-        let mut slower: Vec<(f64, String)> = self
-            .each()
-            .filter_map(|(line, rows, cell)| Some((cell.ratio()?, line.name(rows))))
-            .collect();
-        let measured = slower.len();
-        slower.retain(|(ratio, _)| *ratio > 1.0);
-        slower.sort_by(|a, b| b.0.total_cmp(&a.0));
-        println!("\n### Slower than the crate\n");
+    /// The measurements of a function, whatever its argument, at a size.
+    fn summary(&self, family: &str, size: usize) -> String {
+        let lines = self.lines.iter().filter(|line| line.family() == family);
+        let cells: Vec<&Cell> = lines.filter_map(|line| line.cells.get(size)).collect();
+        let ratios: Vec<f64> = cells.iter().filter_map(|cell| cell.ratio()).collect();
+        let costs: Vec<f64> = cells.iter().filter_map(|cell| cell.port()).collect();
+        let slower = ratios.iter().filter(|ratio| **ratio > 1.0).count();
+        match (spread(&ratios), spread(&costs)) {
+            (Some((least, most)), Some((cheap, dear))) => format!(
+                "{least:.2} to {most:.2}, {slower} of {}; {:.1} to {:.1}",
+                ratios.len(),
+                cheap * 1e9,
+                dear * 1e9
+            ),
+            _ => String::new(),
+        }
+    }
+
+    fn print_summary(&self) {
+        let mut families: Vec<String> = vec![];
+        for line in &self.lines {
+            if !families.contains(&line.family()) {
+                families.push(line.family());
+            }
+        }
+        println!("\n### All arguments, frames and NULLs together\n");
         println!(
-            "{} of {measured} measurements, the slowest first:\n",
-            slower.len()
+            "The ratio, least to most, and in how many it is above 1; nanoseconds a row of this library, least to most.\n"
         );
-        for (ratio, name) in slower {
-            println!("- {ratio:.2}: {name}");
+        print!("| |");
+        for rows in self.sizes {
+            print!(" {} rows |", grouped(*rows));
+        }
+        println!("\n|---|{}", "---|".repeat(self.sizes.len()));
+        for family in families {
+            print!("| {family} |");
+            for size in 0..self.sizes.len() {
+                print!(" {} |", self.summary(&family, size));
+            }
+            println!();
         }
     }
 
@@ -180,31 +216,6 @@ impl Report {
                 let met = if ratio <= 0.2 { "met" } else { "not met" };
                 println!("- {ratio:.2}, {met}: {}", line.name(rows));
             }
-        }
-    }
-
-    /// The spread of this library's cost a row over all that a function is asked with.
-    fn print_growth(&self) {
-        println!(
-            "\n### Nanoseconds a row of this library, least and most, over every size and argument\n"
-        );
-        let mut seen: Vec<String> = vec![];
-        for line in &self.lines {
-            let family = line.family();
-            if seen.contains(&family) {
-                continue;
-            }
-            let costs = self
-                .each()
-                .filter(|(other, _, _)| other.family() == family)
-                .filter_map(|(_, _, cell)| cell.port());
-            let (mut least, mut most) = (f64::INFINITY, 0f64);
-            for cost in costs {
-                least = least.min(cost * 1e9);
-                most = most.max(cost * 1e9);
-            }
-            println!("- {family}: {least:.1} to {most:.1}");
-            seen.push(family);
         }
     }
 
@@ -245,11 +256,10 @@ impl Line {
             Manner::Whole => "whole",
             Manner::ByRow => "row by row",
         };
-        let name = self.case.function.name();
         let nulls = match self.case.function.ignores_nulls() {
-            true => " ignoring NULLs",
+            true => " IGNORE NULLS",
             false => "",
         };
-        format!("{name}{nulls}, {manner}")
+        format!("{}{nulls}, {manner}", self.case.name())
     }
 }
