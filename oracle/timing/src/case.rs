@@ -100,16 +100,19 @@ impl Case {
         }
     }
 
-    /// The offset of a shift is below the rows, and no frame is longer than they are.
+    /// The offset of a shift is below the rows, and no frame is longer than they are. Over more than a million
+    /// rows fewer arguments stand for all, so that the whole ends in time.
     pub fn fits(&self, rows: usize) -> bool {
+        let argument = argument(&self.function);
+        let is_many = rows > 1_000_000;
         match (&self.function, self.over) {
             (Function::Shift(_), _) => {
-                argument(&self.function).is_some_and(|m| (m as usize) < rows)
+                argument.is_some_and(|m| (m as usize) < rows) && !(is_many && argument == Some(100))
             }
-            // Over more rows than a million frames of one length stand for all, so that the whole ends in time.
             (_, Over::Frames(_, Frames::Last(length))) => {
-                length <= rows && (rows <= 1_000_000 || length == 1000)
+                length <= rows && (!is_many || length == 1000 && argument != Some(-3))
             }
+            (_, Over::Frames(_, Frames::Growing)) => !is_many || argument != Some(-3),
             (_, Over::Groups(group)) => group <= rows || group == usize::MAX,
             _ => true,
         }

@@ -62,7 +62,7 @@ pub fn alternate(works: &mut [Work<'_>], budget: Duration) -> Vec<f64> {
     let start = Instant::now();
     for round in 0..MOST {
         let spent = start.elapsed();
-        if round >= FEWEST && spent > budget || round > 0 && spent > 10 * budget {
+        if round >= FEWEST && spent > budget || round > 0 && spent > 4 * budget {
             break;
         }
         for turn in 0..works.len() {
