@@ -1,6 +1,7 @@
 //! The crate's window functions beside an independent model of the definitions, one call or list of
 //! calls a line.
 
+pub mod cases;
 pub mod compare;
 pub mod crate_side;
 pub mod differences;

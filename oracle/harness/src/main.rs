@@ -9,9 +9,8 @@ use harness::lines::Line;
 use harness::model::model;
 use harness::outcome::{Outcomes, filled};
 use harness::parse::parse;
-use harness::random::Random;
+use harness::cases::{every_line, every_wild_line, SEED};
 use harness::record::Sample;
-use harness::{long, short};
 use std::env;
 use std::io::{self, BufRead, Write};
 use std::path::Path;
@@ -33,32 +32,6 @@ fn fill(side: fn(&Line) -> Outcomes) -> io::Result<()> {
     out.flush()
 }
 
-const SEED: u64 = 55;
-const RANDOM_LINES: usize = 60_000;
-const LONG_LINES: usize = 300;
-
-/// Every short case, then random ones.
-fn every_line(sink: short::Sink) {
-    short::whole_shifts(5, sink);
-    short::shift_rows(5, sink);
-    short::lead_rows(7, sink);
-    short::whole_frames(5, sink);
-    short::frame_rows(3, sink);
-    short::settled_rows(4, sink);
-    short::whole_ranks(6, sink);
-    short::rank_rows(6, sink);
-    short::wrong_spans(3, sink);
-    let mut random = Random::new(SEED);
-    for _ in 0..RANDOM_LINES {
-        sink(long::whole(&mut random, 12));
-        sink(long::run(&mut random, 10));
-    }
-    for _ in 0..LONG_LINES {
-        sink(long::whole(&mut random, 1200));
-        sink(long::run(&mut random, 120));
-    }
-}
-
 fn compare(folder: &Path, program: Option<&Path>) -> io::Result<bool> {
     let mut report = Report::default();
     report.compare_built();
@@ -75,10 +48,13 @@ fn compare(folder: &Path, program: Option<&Path>) -> io::Result<bool> {
         });
         result?;
         drive.go_wild()?;
-        let mut random = Random::new(SEED);
-        for _ in 0..RANDOM_LINES {
-            drive.compare(long::wild_run(&mut random, 8))?;
-        }
+        let mut result = Ok(());
+        every_wild_line(&mut |line| {
+            if result.is_ok() {
+                result = drive.compare(line);
+            }
+        });
+        result?;
         drive.flush()?;
         drive.print();
         differing += drive.differ;
