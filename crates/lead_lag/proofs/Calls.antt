@@ -23,8 +23,9 @@ use Rattle.present.specs.Present.{at, ahead, after}
 use Rattle.lead_lag.specs.Offset.{way_of}
 use Rattle.lead_lag.specs.Shift.{Proper, source_row, taken, shifted, reaches, mark_of, Holding, shift_meaning}
 use Rattle.lead_lag.specs.Steps.{source_by, waits, held_after}
-use Rattle.present.proofs.Ahead.{ahead-number, ahead-same, before_same, nth_has}
+use Rattle.present.proofs.Ahead.{ahead-same, before_same, nth_has}
 use Rattle.present.proofs.Counting.{counted-source}
+use Rattle.present.proofs.Found.{found-source, found-between}
 use Rattle.lead_lag.specs.Fronts.{way_proper, taken_same, Front, front_take, source_front}
 use Rattle.lead_lag.proofs.Holds.{holds_after, mark_below, mark_rises}
 
@@ -46,17 +47,17 @@ source_low (Back m) true h rows f i a p d l r e =
     let t : mark_of (Back m) true h ≡ r = ap (λ (o : Option ℕ). unwrap_or o 0) e in
     (omega (arith, t), omega (arith, t, mark_below (Back m) true h rows i p d))
 source_low (Ahead m) false h rows f i a p d l r e = let s = cond_some (ltb (i + m) a) (i + m) r e in (omega (arith, d.next_row, s.1), omega (arith, s.1, ltb-true (i + m) a s.0))
-source_low (Ahead m) true h rows f i a p d l r e = let s = ahead-number f (i + 1) (a - (i + 1)) (m - 1) r e in (omega (arith, d.next_row, s.from), omega (arith, s.below))
+source_low (Ahead m) true h rows f i a p d l r e = let s = found-between m h rows f i a l d.counts r e in (omega (arith, d.next_row, s.0), omega (arith, s.1))
 
 -- it is that of the first rows
-pub source_seen : {V : Type 0} (way : Way) (ignoring : Bool) (h : Held) (xs rows : List (Option V)) (f : ℕ → Option V) (i a : ℕ) → Proper way → Holding way ignoring h rows i → i < a → length xs ≡ a → Front xs rows → ((k : ℕ) → i < k → k < a → f k ≡ at xs k) → source_by way ignoring h f i a ≡ source_row way ignoring xs i
+pub source_seen : {V : Type 0} (way : Way) (ignoring : Bool) (h : Held) (xs rows : List (Option V)) (f : ℕ → Option V) (i a : ℕ) → Proper way → Holding way ignoring h rows i → i < a → length xs ≡ a → Front xs rows → ((k : ℕ) → i ≤ k → k < a → f k ≡ at xs k) → source_by way ignoring h f i a ≡ source_row way ignoring xs i
 source_seen Own false h xs rows f i a p d l n fr same = refl
 source_seen Own true h xs rows f i a p d l n fr same = refl
 source_seen (Back m) false h xs rows f i a p d l n fr same = refl
 source_seen (Back m) true h xs rows f i a p d l n fr same = counted-source m h rows i p d.counts ∙ ap (λ (ys : List ℕ). slice_get ys (m - 1)) (before_same (at rows) (at xs) i (λ k u. sym (fr.same k (omega arith))))
 source_seen (Ahead m) false h xs rows f i a p d l n fr same = ap (λ (x : ℕ). cond (ltb (i + m) x) (Some (i + m)) None) (sym n)
 source_seen (Ahead m) true h xs rows f i a p d l n fr same =
-    ap (λ (ys : List ℕ). slice_get ys (m - 1)) (ahead-same f (at xs) (i + 1) (a - (i + 1)) (λ x u v. same x (omega arith) (omega arith)) ∙ ap (λ (x : ℕ). ahead (at xs) (i + 1) (x - (i + 1))) (sym n))
+    found-source m h rows f i a l (omega (arith, fr.shorter)) (λ k u v. same k u v ∙ fr.same k (omega arith)) d.counts ∙ ap (λ (ys : List ℕ). slice_get ys (m - 1)) (sym (ahead-same (at xs) (at rows) (i + 1) (a - (i + 1)) (λ x u v. fr.same x (omega arith))) ∙ ap (λ (x : ℕ). ahead (at xs) (i + 1) (x - (i + 1))) (sym n))
 
 -- it waits exactly if the first rows do not reach far enough and are not all
 waits_is : {V : Type 0} (way : Way) (ignoring known : Bool) (xs : List (Option V)) (i : ℕ) → Proper way → waits way (source_row way ignoring xs i) known ≡ not (known || reaches way ignoring xs i)
@@ -119,8 +120,8 @@ module _ {V : Type 0} (e : WindowShift V) (i : ℕ) (w : Window V) (frame : Fram
   answer_is y =
       taken_same (view w) (at p.rows) e.default_value source (λ r s. let b = source_low way ignoring e.held p.rows (view w) i (end_of w) (way_proper e.shift_offset) q.stands l r s in agree r (omega (arith, h.kept, b.0)) b.1) ∙ ap (taken (at p.rows) e.default_value) (source_whole y)
 
-  stands_on : Holding way ignoring (held_after way ignoring e.held (view w) i (i + 1)) p.rows (i + 1)
-  stands_on = holds_after way ignoring e.held p.rows i (view w) (way_proper e.shift_offset) q.stands (λ k u v. agree k (omega (arith, h.kept)) (omega (arith, l)))
+  stands_on : waits way source known ≡ false → Holding way ignoring (held_after way ignoring e.held (view w) i (i + 1) source) p.rows (i + 1)
+  stands_on y = holds_after way ignoring e.held p.rows i (view w) source (way_proper e.shift_offset) q.stands (λ k u v. agree k (omega (arith, h.kept)) (omega (arith, l))) (source_whole y)
 
 -- a row call that is too early
 pub early : {V : Type 0} (e : WindowShift V) (i : ℕ) (w : Window V) (frame : Frame) (known : Bool) → Handed false (shift_meaning e).keep w frame known → i < end_of w → waits (way_of e.shift_offset) (source_by (way_of e.shift_offset) e.ignore_nulls e.held (view w) i (end_of w)) known ≡ true → RowCall shift_meaning false i w frame known e e (Err (TooEarly i))
@@ -132,14 +133,14 @@ early e i w frame known h l y = record {
 }
 
 -- a row call that answers
-pub answers : {V : Type 0} (e : WindowShift V) (i : ℕ) (w : Window V) (frame : Frame) (known : Bool) → Handed false (shift_meaning e).keep w frame known → i < end_of w → waits (way_of e.shift_offset) (source_by (way_of e.shift_offset) e.ignore_nulls e.held (view w) i (end_of w)) known ≡ false → (x : Option V) → x ≡ taken (view w) e.default_value (source_by (way_of e.shift_offset) e.ignore_nulls e.held (view w) i (end_of w)) → (h' : Held) → h' ≡ held_after (way_of e.shift_offset) e.ignore_nulls e.held (view w) i (i + 1) → RowCall shift_meaning false i w frame known e (record { shift_offset = e.shift_offset; ignore_nulls = e.ignore_nulls; default_value = e.default_value; held = h' }) (Ok x)
+pub answers : {V : Type 0} (e : WindowShift V) (i : ℕ) (w : Window V) (frame : Frame) (known : Bool) → Handed false (shift_meaning e).keep w frame known → i < end_of w → waits (way_of e.shift_offset) (source_by (way_of e.shift_offset) e.ignore_nulls e.held (view w) i (end_of w)) known ≡ false → (x : Option V) → x ≡ taken (view w) e.default_value (source_by (way_of e.shift_offset) e.ignore_nulls e.held (view w) i (end_of w)) → (h' : Held) → h' ≡ held_after (way_of e.shift_offset) e.ignore_nulls e.held (view w) i (i + 1) (source_by (way_of e.shift_offset) e.ignore_nulls e.held (view w) i (end_of w)) → RowCall shift_meaning false i w frame known e (record { shift_offset = e.shift_offset; ignore_nulls = e.ignore_nulls; default_value = e.default_value; held = h' }) (Ok x)
 answers {V} e i w frame known h l y x ex h' eh =
     let e' : WindowShift V = record { shift_offset = e.shift_offset; ignore_nulls = e.ignore_nulls; default_value = e.default_value; held = h' } in
     record {
       alike = alike e h';
-      mark = subst (λ (k : Held). mark_of (way_of e.shift_offset) e.ignore_nulls e.held ≤ mark_of (way_of e.shift_offset) e.ignore_nulls k) (sym eh) (mark_rises (way_of e.shift_offset) e.ignore_nulls e.held (view w) i (i + 1));
+      mark = subst (λ (k : Held). mark_of (way_of e.shift_offset) e.ignore_nulls e.held ≤ mark_of (way_of e.shift_offset) e.ignore_nulls k) (sym eh) (mark_rises (way_of e.shift_offset) e.ignore_nulls e.held (view w) i (i + 1) (source_by (way_of e.shift_offset) e.ignore_nulls e.held (view w) i (end_of w)));
       outcome = l;
-      given = λ p q. given_ok (shift_meaning e) (shift_meaning e') p i _ x (settled e i w frame known h l p q y) (ex ∙ answer_is e i w frame known h l p q y) (subst (λ (k : Held). Holding (way_of e.shift_offset) e.ignore_nulls k p.rows (i + 1)) (sym eh) (stands_on e i w frame known h l p q));
+      given = λ p q. given_ok (shift_meaning e) (shift_meaning e') p i _ x (settled e i w frame known h l p q y) (ex ∙ answer_is e i w frame known h l p q y) (subst (λ (k : Held). Holding (way_of e.shift_offset) e.ignore_nulls k p.rows (i + 1)) (sym eh) (stands_on e i w frame known h l p q y));
     }
 
 -- where a shift looks
@@ -157,5 +158,5 @@ module _ {V : Type 0} (e : WindowShift V) (i : ℕ) (w : Window V) (frame : Fram
   pub early_by : b ≡ true → RowCall shift_meaning false i w frame known e e (Err (TooEarly i))
   early_by y = early e i w frame known h l (sym waits_at ∙ y)
 
-  pub answers_by : b ≡ false → (x : Option V) → x ≡ taken (view w) e.default_value s → (h' : Held) → h' ≡ held_after z.way z.ignore_nulls e.held (view w) i (i + 1) → RowCall shift_meaning false i w frame known e (record { shift_offset = e.shift_offset; ignore_nulls = e.ignore_nulls; default_value = e.default_value; held = h' }) (Ok x)
-  answers_by y x ex h' eh = answers e i w frame known h l (sym waits_at ∙ y) x (ex ∙ ap (taken (view w) e.default_value) source_at) h' (eh ∙ ap (λ (k : Look). held_after k.way k.ignore_nulls e.held (view w) i (i + 1)) ez)
+  pub answers_by : b ≡ false → (x : Option V) → x ≡ taken (view w) e.default_value s → (h' : Held) → h' ≡ held_after z.way z.ignore_nulls e.held (view w) i (i + 1) s → RowCall shift_meaning false i w frame known e (record { shift_offset = e.shift_offset; ignore_nulls = e.ignore_nulls; default_value = e.default_value; held = h' }) (Ok x)
+  answers_by y x ex h' eh = answers e i w frame known h l (sym waits_at ∙ y) x (ex ∙ ap (taken (view w) e.default_value) source_at) h' (eh ∙ (ap (λ (k : Look). held_after k.way k.ignore_nulls e.held (view w) i (i + 1) s) ez ∙ ap (held_after (way_of e.shift_offset) e.ignore_nulls e.held (view w) i (i + 1)) source_at))

@@ -8,13 +8,14 @@ use Rattle.lead_lag.specs.declared.offset.Way.TheVariants.{Own, Back, Ahead}
 use Rattle.present.specs.Present.{at}
 use Rattle.present.specs.Counting.{start, Counting, counted_row}
 use Rattle.present.proofs.Counting.{start_counts, counted-mark, mark_low, counts_next, mark_grows}
-use Rattle.lead_lag.specs.Shift.{Proper, mark_of, Holding}
+use Rattle.lead_lag.specs.Shift.{Proper, source_row, mark_of, Holding}
 use Rattle.lead_lag.specs.Steps.{held_after}
 
 -- nothing is held at row 0
 pub fresh_holds : {V : Type 0} (way : Way) (ignoring : Bool) (rows : List (Option V)) → Holding way ignoring start rows 0
 fresh_holds Own ignoring rows = record { next_row = refl; mark = refl; counts = tt }
-fresh_holds (Ahead m) ignoring rows = record { next_row = refl; mark = refl; counts = tt }
+fresh_holds (Ahead m) false rows = record { next_row = refl; mark = refl; counts = tt }
+fresh_holds (Ahead m) true rows = record { next_row = refl; mark = refl; counts = tt }
 fresh_holds (Back m) false rows = record { next_row = refl; mark = refl; counts = tt }
 fresh_holds (Back m) true rows = record { next_row = refl; mark = grind (arith, nat_tests); counts = start_counts m rows }
 
@@ -35,16 +36,18 @@ holds_on m h rows i f p d agree =
       counts = c;
     }
 
--- one row on, whatever the way
-pub holds_after : {V : Type 0} (way : Way) (ignoring : Bool) (h : Held) (rows : List (Option V)) (i : ℕ) (f : ℕ → Option V) → Proper way → Holding way ignoring h rows i → ((k : ℕ) → mark_of way ignoring h ≤ k → k ≤ i → f k ≡ at rows k) → Holding way ignoring (held_after way ignoring h f i (i + 1)) rows (i + 1)
-holds_after Own ignoring h rows i f p d agree = record { next_row = omega (arith, d.next_row); mark = omega (arith, d.next_row); counts = tt }
-holds_after (Ahead m) ignoring h rows i f p d agree = record { next_row = omega (arith, d.next_row); mark = omega (arith, d.next_row); counts = tt }
-holds_after (Back m) false h rows i f p d agree = record { next_row = omega (arith, d.next_row); mark = omega (arith, d.next_row); counts = tt }
-holds_after (Back m) true h rows i f p d agree = holds_on m h rows i f p d agree
+-- one row on, whatever the way, with the row's source row
+pub holds_after : {V : Type 0} (way : Way) (ignoring : Bool) (h : Held) (rows : List (Option V)) (i : ℕ) (f : ℕ → Option V) (s : Option ℕ) → Proper way → Holding way ignoring h rows i → ((k : ℕ) → mark_of way ignoring h ≤ k → k ≤ i → f k ≡ at rows k) → s ≡ source_row way ignoring rows i → Holding way ignoring (held_after way ignoring h f i (i + 1) s) rows (i + 1)
+holds_after Own ignoring h rows i f s p d agree is = record { next_row = omega (arith, d.next_row); mark = omega (arith, d.next_row); counts = tt }
+holds_after (Back m) false h rows i f s p d agree is = record { next_row = omega (arith, d.next_row); mark = omega (arith, d.next_row); counts = tt }
+holds_after (Back m) true h rows i f s p d agree is = holds_on m h rows i f p d agree
+holds_after (Ahead m) false h rows i f s p d agree is = record { next_row = omega (arith, d.next_row); mark = omega (arith, d.next_row); counts = tt }
+holds_after (Ahead m) true h rows i f s p d agree is = record { next_row = omega (arith, d.next_row); mark = omega (arith, d.next_row); counts = is }
 
 -- the mark never falls, whatever is shown
-pub mark_rises : {V : Type 0} (way : Way) (ignoring : Bool) (h : Held) (f : ℕ → Option V) (i n : ℕ) → mark_of way ignoring h ≤ mark_of way ignoring (held_after way ignoring h f i n)
-mark_rises Own ignoring h f i n = omega arith
-mark_rises (Ahead m) ignoring h f i n = omega arith
-mark_rises (Back m) false h f i n = omega arith
-mark_rises (Back m) true h f i n = mark_grows m h f i n
+pub mark_rises : {V : Type 0} (way : Way) (ignoring : Bool) (h : Held) (f : ℕ → Option V) (i n : ℕ) (s : Option ℕ) → mark_of way ignoring h ≤ mark_of way ignoring (held_after way ignoring h f i n s)
+mark_rises Own ignoring h f i n s = omega arith
+mark_rises (Back m) false h f i n s = omega arith
+mark_rises (Back m) true h f i n s = mark_grows m h f i n
+mark_rises (Ahead m) false h f i n s = omega arith
+mark_rises (Ahead m) true h f i n s = omega arith

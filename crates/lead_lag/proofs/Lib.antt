@@ -2,3 +2,4 @@ pub mod Holds
 pub mod Calls
 pub mod Columns
 pub mod Turned
+pub mod Presences

@@ -13,7 +13,7 @@ use Rattle.lead_lag.specs.declared.offset.Way.{Way}
 use Rattle.lead_lag.specs.declared.offset.Way.TheVariants.{Own, Back, Ahead}
 use Rattle.lead_lag.specs.Offset.{signed_offset, way_of}
 use Rattle.present.specs.Present.{at, before, after}
-use Rattle.present.specs.Counting.{start, Counting, held_mark}
+use Rattle.present.specs.Counting.{start, Counting, Finding, held_mark}
 
 -- a way looks at least one row off, or at the row itself
 abbrev pub Proper : Way → Type 0
@@ -72,12 +72,13 @@ mark_of (Ahead m) ignoring h = h.next
 mark_of (Back m) false h = h.next - m
 mark_of (Back m) true h = held_mark m h
 
--- looking back with NULLs ignored: the present rows before row i counted up to m, and the oldest counted
+-- with NULLs ignored: looking back, the present rows before row i counted up to m, and the oldest counted; looking ahead, the m-th present row from row i on, if one was sought
 abbrev pub Counts : {V : Type 0} → Way → Bool → Held → List (Option V) → ℕ → Type 0
 Counts Own ignoring h rows i = Unit {0}
-Counts (Ahead m) ignoring h rows i = Unit {0}
 Counts (Back m) false h rows i = Unit {0}
 Counts (Back m) true h rows i = Counting m h rows i
+Counts (Ahead m) false h rows i = Unit {0}
+Counts (Ahead m) true h rows i = Finding m h rows i
 
 -- what is held at row i
 pub record Holding {V : Type 0} (way : Way) (ignoring : Bool) (h : Held) (rows : List (Option V)) (i : ℕ) : Type 0 where

@@ -138,7 +138,7 @@ impl<K: Kind> RowEvaluator for WindowShift<K> {
             return Err(Fault::TooEarly(next));
         }
         let answer = take_cell(&window, self.default_value, source);
-        self.held = look.step(self.held, &window, next);
+        self.held = look.step(self.held, &window, next, source);
         Ok(answer)
     }
 

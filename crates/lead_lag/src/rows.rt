@@ -9,8 +9,7 @@ ghost use Rattle.lead_lag.specs.Steps.{source_by, waits, held_after};
 use crate::offset::Way;
 use column::column::Window;
 use column::kind::Kind;
-use present::held::{Held, count_row, oldest_source};
-use present::scan::present_ahead;
+use present::held::{Held, count_row, oldest_source, source_ahead};
 
 // Where a shift looks; with NULLs ignored only present rows are steps.
 #[derive(Clone, Copy)]
@@ -21,7 +20,7 @@ pub(crate) struct Look {
 
 impl Way {
     // The row so many rows off row `i`, if it is one of the `n` rows.
-    fn row_off(self, n: usize, i: usize) -> Option<usize>
+    pub(crate) fn row_off(self, n: usize, i: usize) -> Option<usize>
         ensures { result ≡ row_off self n i }
     {
         match self {
@@ -60,7 +59,7 @@ impl Look {
         match self.way {
             Way::Own => Some(next),
             Way::Back(m) => oldest_source(m, held),
-            Way::Ahead(m) => present_ahead(window, next.saturating_add(1), end, m),
+            Way::Ahead(m) => source_ahead(m, held, window, next, end),
         }
     }
 
@@ -71,12 +70,19 @@ impl Look {
         matches!(self.way, Way::Ahead(_)) && !known && source.is_none()
     }
 
-    // What is held after row `next`.
-    pub(crate) fn step<K: Kind>(self, held: Held, window: &Window<'_, K>, next: usize) -> Held
-        ensures { result ≡ held_after self.way self.ignore_nulls held (view window.now) next (row_after next) }
+    // What is held after row `next`, whose answer is taken from `source`.
+    pub(crate) fn step<K: Kind>(
+        self,
+        held: Held,
+        window: &Window<'_, K>,
+        next: usize,
+        source: Option<usize>,
+    ) -> Held
+        ensures { result ≡ held_after self.way self.ignore_nulls held (view window.now) next (row_after next) source }
     {
         match self.way {
             Way::Back(m) if self.ignore_nulls => count_row(m, held, window, next),
+            Way::Ahead(_) if self.ignore_nulls => held.found(next, source),
             _ => held.passed(next),
         }
     }

@@ -5,3 +5,4 @@ pub mod Chains
 pub mod Parts
 pub mod Turned
 pub mod Counting
+pub mod Found

@@ -3,6 +3,7 @@ use Rattle.std.proofs.Common.{◌≡◌, ℕ, zero, suc, ◌+◌, ◌-◌, ◌<�
 use Rattle.std.specs.List.{slice_get}
 use Rattle.std.proofs.lemmas.Bool.{cond-true, cond-false, le-leb, lt-leb, lt-ltb, le-ltb}
 use Rattle.present.specs.Present.{before, ahead}
+use Rattle.present.specs.Counting.{up_to}
 use Rattle.present.proofs.Counts.{number_of}
 use Rattle.present.proofs.Ahead.{ahead-number}
 use Rattle.present.proofs.Behind.{behind_push}
@@ -11,11 +12,6 @@ use Rattle.present.proofs.Behind.{behind_push}
 abbrev pub from_on : ℕ → Option ℕ → Option ℕ
 from_on s None = None
 from_on s (Some r) = cond (leb s r) (Some r) None
-
--- a row found, if it lies before row e
-abbrev pub up_to : ℕ → Option ℕ → Option ℕ
-up_to e None = None
-up_to e (Some r) = cond (ltb r e) (Some r) None
 
 -- of the present rows before row e, those from row s on
 pub cut : (s : ℕ) (o : Option ℕ) → ((r : ℕ) → o ≡ Some r → r < s) → None ≡ from_on s o
@@ -39,7 +35,7 @@ pub behind-before : {V : Type 0} (f : ℕ → Option V) (s e j : ℕ) → s ≤ 
 behind-before f s e j h = let z : s + (e - s) ≡ e = omega arith in behind_grown f s (e - s) j ∙ ap (λ (x : ℕ). from_on s (slice_get (before f x) j)) z
 
 -- of the present rows from row k on, those before row e
-past : (e : ℕ) (o : Option ℕ) → ((r : ℕ) → o ≡ Some r → e ≤ r) → None ≡ up_to e o
+pub past : (e : ℕ) (o : Option ℕ) → ((r : ℕ) → o ≡ Some r → e ≤ r) → None ≡ up_to e o
 past e None h = refl
 past e (Some r) h = sym (cond-false (ltb r e) (Some r) None (le-ltb r e (h r refl)))
 

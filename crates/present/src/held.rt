@@ -2,9 +2,9 @@
 // a count and the row of the oldest stand for the queue of distances between present rows.
 ghost use Rattle.std.specs.Prelude.{◌≡◌};
 ghost use Rattle.column.specs.Cells.{view};
-ghost use Rattle.present.specs.Counting.{row_after, counted, passed, counted_row, oldest_source};
+ghost use Rattle.present.specs.Counting.{row_after, counted, passed, counted_row, oldest_source, found_row, source_ahead};
 
-use crate::scan::present_after;
+use crate::scan::{pass_ahead, present_after, present_ahead};
 use column::column::Window;
 use column::kind::Kind;
 
@@ -15,12 +15,14 @@ pub struct Counted {
     pub oldest: usize,
 }
 
-// The next row; looking back with NULLs ignored also the present rows that are counted, once there are some.
+// The next row; looking back with NULLs ignored also the present rows that are counted, once there are some,
+// and looking ahead so the row that was found for the row before, or that there was none, once one was sought.
 // `m`, which calls take beside it, is no field: a shift keeps its offset, and would hold it twice.
 #[derive(Clone, Copy)]
 pub struct Held {
     pub next: usize,
     pub counted: Option<Counted>,
+    pub found: Option<Option<usize>>,
 }
 
 impl Held {
@@ -28,6 +30,7 @@ impl Held {
     pub const START: Held = Held {
         next: 0,
         counted: None,
+        found: None,
     };
 
     // Past a row that is not counted.
@@ -37,6 +40,16 @@ impl Held {
         Held {
             next: self.next.max(next.saturating_add(1)),
             ..self
+        }
+    }
+
+    // Past a row for which `source` was found ahead.
+    pub fn found(self, next: usize, source: Option<usize>) -> Held
+        ensures { result ≡ found_row self (row_after next) source }
+    {
+        Held {
+            found: Some(source),
+            ..self.passed(next)
         }
     }
 }
@@ -85,4 +98,20 @@ pub fn oldest_source(m: usize, held: Held) -> Option<usize>
     ensures { result ≡ oldest_source m held }
 {
     held.counted.filter(|c| c.count >= m).map(|c| c.oldest)
+}
+
+// The m-th present row after row `next`, below `end`: sought from what was found for the row before, where something was.
+pub fn source_ahead<K: Kind>(
+    m: usize,
+    held: Held,
+    window: &Window<'_, K>,
+    next: usize,
+    end: usize,
+) -> Option<usize>
+    ensures { result ≡ source_ahead m held (view window.now) next end }
+{
+    match held.found {
+        None => present_ahead(window, next.saturating_add(1), end, m),
+        Some(found) => pass_ahead(window, found, next, end).filter(|row| *row < end),
+    }
 }
