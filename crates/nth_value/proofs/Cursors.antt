@@ -8,10 +8,10 @@ use Rattle.column.specs.Cells.{column_cells, view}
 use Rattle.column.proofs.Cells.{view-all}
 use Rattle.present.specs.declared.held.Held.{Held}
 use Rattle.present.specs.Present.{at, before, ahead}
-use Rattle.present.specs.Counting.{Counting, counted_row, oldest_source}
+use Rattle.present.specs.Counting.{Counting, counted_row, oldest_source, up_to}
 use Rattle.present.proofs.Ahead.{ahead-same}
 use Rattle.present.proofs.Counts.{number_of}
-use Rattle.present.proofs.Parts.{from_on, up_to, cut, behind-before, ahead_part}
+use Rattle.present.proofs.Parts.{from_on, cut, behind-before, ahead_part}
 use Rattle.present.proofs.Counting.{counts_next, counted-source}
 use Rattle.nth_value.specs.declared.cursor.Reached.{Reached}
 use Rattle.nth_value.specs.Frames.{cell_of}

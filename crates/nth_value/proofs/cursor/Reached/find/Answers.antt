@@ -2,7 +2,7 @@ use Rattle.std.proofs.Common.{◌≡◌, ℕ, ◌-◌, sym, ap, ◌∙◌, arith
 use Rattle.std.specs.List.{slice_get}
 use Rattle.column.specs.Cells.{view}
 use Rattle.present.specs.Present.{ahead}
-use Rattle.present.proofs.Parts.{up_to}
+use Rattle.present.specs.Counting.{up_to}
 use Rattle.column.specs.Windows.{window_end}
 use Rattle.nth_value.proofs.Cursors.{ahead_found}
 use Rattle.nth_value.proofs.cursor.Reached.find.Goals as goal
