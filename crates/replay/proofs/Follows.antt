@@ -1,16 +1,14 @@
 -- The evaluator of a run, by what each call of the history leaves of it.
-use Rattle.std.proofs.Common.{◌≡◌, ℕ, ◌+◌, ◌<◌, Bool, List, [], ◌∷◌, ◌++◌, length, get_or, take, sym, ap, ◌∙◌, subst, ⊎_elim}
+use Rattle.std.proofs.Common.{◌≡◌, ℕ, Bool, List, [], ◌∷◌, ◌++◌, sym, ap, ◌∙◌, ⊎_elim}
 use Rattle.std.proofs.lemmas.List.{append_assoc, append-nil}
 use Rattle.replay.specs.declared.calls.Call.{Call}
 use Rattle.replay.specs.declared.calls.Entry.{Entry}
 use Rattle.run.specs.declared.progress.Progress.{Progress}
 use Rattle.run.specs.declared.run.Run.{Run}
 use Rattle.run.specs.Rows.{Stepping, Settling}
-use Rattle.evaluator.specs.Meaning.{Meaning}
-use Rattle.replay.specs.History.{Event, history, progress_at}
+use Rattle.replay.specs.History.{Event, progress_at}
 use Rattle.replay.specs.Act.{Followed, evaluator_of, progress_of, evaluator_after, held_from, held}
 use Rattle.replay.proofs.Splits.{split_push, never_nil}
-use Rattle.replay.proofs.Holds.{history-next}
 
 module _ {V A S : Type 0} (keep : S → ℕ) (step : Stepping S V) (settle : Settling S) (wants z : Bool) where
   -- one event more
@@ -33,8 +31,3 @@ module _ {V A S : Type 0} (keep : S → ℕ) (step : Stepping S V) (settle : Set
         (λ q. f.marks before q.0 x q.1)
         (split_push h (c, n) before x after p);
   }
-
-  -- one turn of the loop over the calls
-  pub follow_turn : (meaning : S → Meaning V A) (e : S) (s s' : Run S) (calls : List (Call V)) (i : ℕ) (call : Call V) (notes notes' : List (Entry A)) (n : Entry A) → Followed keep step settle wants z e s (history (take i calls) notes) → progress_of s ≡ progress_at wants z (history (take i calls) notes) → length notes ≡ i → i < length calls → call ≡ get_or calls i call → n.mark ≡ keep (evaluator_of s) → evaluator_of s' ≡ evaluator_after step settle (progress_of s) call n.outcome (evaluator_of s) → notes' ≡ notes ++ n ∷ [] → Followed keep step settle wants z e s' (history (take (i + 1) calls) notes')
-  follow_turn meaning e s s' calls i call notes notes' n f b len lt is m l more =
-      subst (λ (x : List (Event V A)). Followed keep step settle wants z e s' x) (sym (history-next calls i call notes notes' n len lt is more)) (follow_more e s s' (history (take i calls) notes) call n f b m l)

@@ -122,11 +122,7 @@ history-next calls i call notes notes' n len lt is e =
     let taken : take (i + 1) calls ≡ take i calls ++ call ∷ [] = take_more calls i call lt ∙ ap (λ x. take i calls ++ x ∷ []) (sym is) in
     ap (λ x. history x notes') taken ∙ (ap (λ x. history (take i calls ++ call ∷ []) x) e ∙ history_push (take i calls) notes call n (length-take-le i calls (omega arith) ∙ sym len))
 
--- one turn of the loop over the calls, and its end
-pub turns : {V A S : Type 0} (meaning : S → Meaning V A) (law : (e : S) → Laws (meaning e)) (e₀ : S) (wants z : Bool) (s s' : Run S) (calls : List (Call V)) (i : ℕ) (call : Call V) (notes notes' : List (Entry A)) (n : Entry A) → Stands meaning e₀ wants z s (history (take i calls) notes) → length notes ≡ i → i < length calls → call ≡ get_or calls i call → Acted meaning wants call s s' n → notes' ≡ notes ++ n ∷ [] → Stands meaning e₀ wants z s' (history (take (i + 1) calls) notes')
-turns meaning law e₀ wants z s s' calls i call notes notes' n o len lt is a e =
-    subst (λ x. Stands meaning e₀ wants z s' x) (sym (history-next calls i call notes notes' n len lt is e)) (moves meaning law e₀ wants z s s' (history (take i calls) notes) call n o a)
-
+-- the law of what was called
 pub ends : {V A S : Type 0} (meaning : S → Meaning V A) (d e₀ : S) (wants z : Bool) (s : Run S) (h : List (Event V A)) → Alike (meaning d) (meaning e₀) → Stands meaning e₀ wants z s h → Replayed meaning d wants z h × Ended meaning d wants z s h
 ends meaning d e₀ wants z s h a st = (
   replayed_alike meaning d e₀ a wants z h st.holds.replayed,

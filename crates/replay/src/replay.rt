@@ -61,7 +61,11 @@ fn act_closed<E: RowEvaluator>(
     (Run::Shut(run), Entry { mark, outcome })
 }
 
-fn act<E: RowEvaluator>(run: Run<E>, call: &Call<'_, E::Value>) -> (Run<E>, Entry<E::Answer>)
+// Makes one call on a run.
+pub fn act<E: RowEvaluator>(
+    run: Run<E>,
+    call: &Call<'_, E::Value>,
+) -> (Run<E>, Entry<E::Answer>)
     ensures acted { Acted E.Evaluator.meaning E.Evaluator.WANTS_FRAMES call.now run result.0 result.1 }
     ensures leaves { evaluator_of result.0 ≡ evaluator_after E.RowEvaluator.stepped E.RowEvaluator.settling (progress_of run) call.now result.1.outcome (evaluator_of run) }
 {
@@ -88,7 +92,7 @@ pub fn replay<E: RowEvaluator + Drop>(
     ensures { IfOk result (λ x. (length x.entries.items ≡ length calls.now) × Replayed E.Evaluator.meaning evaluator.now E.Evaluator.WANTS_FRAMES from_zero (history calls.now x.entries.items) × Ended E.Evaluator.meaning evaluator.now E.Evaluator.WANTS_FRAMES from_zero x.run (history calls.now x.entries.items) × Followed (λ e. (E.Evaluator.meaning e).keep) E.RowEvaluator.stepped E.RowEvaluator.settling E.Evaluator.WANTS_FRAMES from_zero (E.Evaluator.renewed evaluator.now) x.run (history calls.now x.entries.items)) }
 {
     let mut run = Run::Opened(Open::new(evaluator, from_zero));
-    let mut entries = Vec::new(heap);
+    let mut entries = Vec::with_capacity(heap, calls.len())?;
     for call in calls {
         let (moved, entry) = act(run, call);
         run = moved;

@@ -2,5 +2,5 @@ pub mod Ends
 pub mod Filled
 pub mod Flaws
 pub mod Fronts
-pub mod Puts
+pub mod Playing
 pub mod Told

@@ -90,15 +90,15 @@ pub record Ran {V A S X : Type 0} (meaning : X → Meaning V A) (step : Stepping
 abbrev pub room_refusal : ℕ → ℕ → ℕ → Option Fault
 room_refusal calls outcomes slots = output_refusal calls (min outcomes slots)
 
--- so many calls on a new run: stopped since lists are short, with nothing written, or made, and what finishing ends in is given
-abbrev pub PlayEnds : {S : Type 0} → (S → ℕ) → ℕ → RunLists S → RunLists S → Result Noted Stop → (RunLists S → RunLists S → Noted → Type 0) → Type 0
-PlayEnds count calls before after r Made =
-    Ends Err (refused (room_refusal calls (length before.outcomes) (count before.answers))) before after r ((last : Noted) × (r ≡ Ok last) × Made before after last)
-
--- the same of a list of calls that some bytes stand for
+-- a run: stopped with nothing written, or some calls of this sort are made, and what finishing after them ends in is given
 abbrev pub RunEnds : {V S : Type 0} → Option Stop → RunLists S → RunLists S → Result Noted Stop → (List (Call V) → Type 0) → (List (Call V) → RunLists S → RunLists S → Noted → Type 0) → Type 0
 RunEnds {V} stop before after r Of Made =
     Ends Err stop before after r ((last : Noted) × (r ≡ Ok last) × ((calls : List (Call V)) × Of calls × Made calls before after last))
+
+-- the same of calls whose bytes are without a flaw: only short lists stop them
+abbrev pub PlayEnds : {V S : Type 0} → (S → ℕ) → List V → List Bool → List (List ℕ) → RunLists S → RunLists S → Result Noted Stop → (List (Call V) → RunLists S → RunLists S → Noted → Type 0) → Type 0
+PlayEnds count vs ms cs before after r Made =
+    RunEnds (refused (room_refusal (length cs) (length before.outcomes) (count before.answers))) before after r (AllStand vs ms cs (length cs)) Made
 
 -- the values, marks and calls that a run is handed
 pub record Scripted (N : Type 0) : Type 0 where

@@ -1,14 +1,13 @@
 // Lists of calls on a run, in bytes.
-ghost use Rattle.std.specs.Prelude.{◌≡◌, ◌<◌, length, Some, None, MatchResult};
+ghost use Rattle.std.specs.Prelude.{◌≡◌, ◌<◌, length, get_or, [], Some, None, MatchResult};
 ghost use Rattle.wire.specs.declared.stop.Stop.TheVariants as stop;
 ghost use Rattle.wire.specs.Stops.{Makes, stopped};
-ghost use Rattle.wire.specs.Calls.{call_number, part, window_flaw, call_flaw, calls_in, calls_flaw, Stands, AllStand};
+ghost use Rattle.wire.specs.Calls.{call_number, part, window_flaw, call_flaw, flaw_from, calls_in, calls_flaw, Stands};
 
 use crate::stop::Stop;
 use column::column::{Column, Window};
 use column::kind::Kind;
 use replay::calls::Call;
-use std::alloc::{AllocError, Global};
 
 // What the windows of a run show parts of.
 #[derive(Clone, Copy)]
@@ -19,6 +18,14 @@ pub(crate) struct Shown<'a, K> {
 
 // The bytes of a call: eight numbers of eight bytes, the lowest byte first.
 const CALL_BYTES: usize = 64;
+
+// The calls of a list without a flaw, each read from its bytes as it is made.
+#[derive(Drop)]
+pub(crate) struct Calls<'a, K> {
+    pub(crate) shown: Shown<'a, K>,
+    pub(crate) records: &'a [[u8; CALL_BYTES]],
+    ghost sound: { flaw_from shown.values.now shown.marks.now None 0 records.now ≡ None },
+}
 
 // A number of a call.
 fn number(call: &[u8; CALL_BYTES], place: usize) -> usize
@@ -67,20 +74,39 @@ impl<'a, K: Kind> Shown<'a, K> {
     }
 
     // The calls of a list, or its first flaw.
-    pub(crate) fn calls(&self, heap: Global, bytes: &[u8]) -> Result<Vec<Call<'a, K>>, Stop>
-        ensures { Makes result (stopped stop.Call (calls_flaw self.now.values.now self.now.marks.now bytes.now)) (λ v. AllStand self.now.values.now self.now.marks.now (calls_in bytes.now) (length (calls_in bytes.now)) v.items) }
+    pub(crate) fn calls(&self, bytes: &'a [u8]) -> Result<Calls<'a, K>, Stop>
+        ensures { Makes result (stopped stop.Call (calls_flaw self.now.values.now self.now.marks.now bytes.now)) (λ c. (c.shown ≡ self.now) × (c.records.now ≡ calls_in bytes.now)) }
     {
         let (records, rest) = bytes.as_chunks::<CALL_BYTES>();
-        let mut calls = Vec::with_capacity(heap, records.len())?;
         for (k, record) in records.iter().enumerate() {
-            match self.call(record) {
-                Ok(call) => calls.push(call).map_err(AllocError::from)?,
-                Err(byte) => return Err(Stop::Call(k * CALL_BYTES + byte)),
+            if let Err(byte) = self.call(record) {
+                return Err(Stop::Call(k * CALL_BYTES + byte));
             }
         }
         if !rest.is_empty() {
             return Err(Stop::Call(records.len() * CALL_BYTES));
         }
-        Ok(calls)
+        Ok(Calls {
+            shown: *self,
+            records,
+        })
+    }
+}
+
+impl<'a, K: Kind> Calls<'a, K> {
+    pub(crate) fn len(&self) -> usize
+        ensures { result ≡ length self.now.records.now }
+    {
+        self.records.len()
+    }
+
+    pub(crate) fn get(&self, k: usize) -> Call<'a, K>
+        requires { k < length self.now.records.now }
+        ensures { Stands self.now.shown.values.now self.now.shown.marks.now (get_or self.now.records.now k []) result }
+    {
+        match self.shown.call(&self.records[k]) {
+            Ok(call) => call,
+            Err(_) => unreachable!(),
+        }
     }
 }

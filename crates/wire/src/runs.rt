@@ -1,15 +1,15 @@
 // Runs, each in one call.
-ghost use Rattle.std.specs.Prelude.{◌≡◌, ℕ, ◌<◌, ◌≤◌, List, length, map, slice_set, Ok, Err, ◌==◌, MatchResult};
+ghost use Rattle.std.specs.Prelude.{◌≡◌, ℕ, ◌<◌, List, length, slice_set, Ok, Err, ◌==◌, MatchResult};
 ghost use Rattle.replay.specs.Act.{progress_of, total_now};
 ghost use Rattle.wire.specs.Calls.{calls_in};
 ghost use Rattle.wire.specs.Ends.{told_stop};
 ghost use Rattle.wire.specs.Functions.{choosing, ranking_of};
-ghost use Rattle.wire.specs.Lists.{over};
 ghost use Rattle.wire.specs.Slots.{LentSlots, put_lent, lent_count};
 ghost use Rattle.wire.specs.Stops.{first_of, refused, told};
 ghost use Rattle.wire.specs.Whole.{number_family};
-ghost use Rattle.wire.specs.Runs.{noted_refusal, noted, put_entries, put_outcome, ended_at, PlayEnds, RunEnds, Ran, room_refusal, scripted, CallsOf, script_stop, ChosenRan, MadeRan, run_stop, RankingRan, ending_left, RunCellsCall, RunNumbersCall};
+ghost use Rattle.wire.specs.Runs.{noted_refusal, noted, put_outcome, ended_at, PlayEnds, RunEnds, Ran, room_refusal, scripted, CallsOf, script_stop, ChosenRan, MadeRan, run_stop, RankingRan, ending_left, RunCellsCall, RunNumbersCall};
 
+use crate::calls::Calls;
 use crate::function::{CELLS, Chosen, Function, NUMBERS, Ranking};
 use crate::kinds::{Crossing, read_default};
 use crate::output::LentCells;
@@ -20,10 +20,10 @@ use column::kind::Kind;
 use column::output::{Numbers, Output};
 use rank::rank::Rank;
 use rank::row_number::RowNumber;
-use replay::calls::{Call, Entry, Reply};
-use replay::replay::{Played, replay};
+use replay::calls::Reply;
+use replay::replay::act;
 use run::rows::RowEvaluator;
-use run::run::Run;
+use run::run::{Open, Run};
 use std::alloc::Global;
 use std::marker::PhantomData;
 
@@ -109,78 +109,64 @@ fn put_answer<A: Copy, O: Output<A>>(k: usize, outcome: &Result<Reply<A>, Fault>
     }
 }
 
-// Writes what came of each call, and the answers.
-fn write_entries<A: Copy, O: Output<A>>(entries: &[Entry<A>], outcomes: &mut [Noted], out: &mut O)
-    requires outcomes { length entries.now ≤ length outcomes.old }
-    requires room { length entries.now ≤ O.Output.size (O.Output.slots out.old) }
-    ensures outcomes { outcomes.new ≡ over (map (λ n. noted n.outcome) entries.now) outcomes.old }
-    ensures slots { O.Output.slots out.new ≡ put_entries O.Output.stored (O.Output.slots out.old) 0 entries.now }
-    ensures place { O.Output.place out.old out.new }
-{
-    for (k, entry) in entries.iter().enumerate() {
-        outcomes[k] = Noted::of(&entry.outcome);
-        put_answer(k, &entry.outcome, out);
-    }
-}
-
-// Makes the calls on a new run, and gives what finishing it ends in.
+// Makes the calls on a new run, writes what comes of each as it is made, and gives what finishing it ends in.
 fn play<E: RowEvaluator + Drop, O: Output<E::Answer>>(
-    heap: Global,
     evaluator: &E,
     from_zero: bool,
-    calls: &[Call<'_, E::Value>],
+    calls: &Calls<'_, E::Value>,
     outcomes: &mut [Noted],
     out: &mut O,
 ) -> Result<Noted, Stop>
-    ensures ends { PlayEnds {S = O.Output.Slots} O.Output.size (length calls.now) (record { outcomes = outcomes.old; answers = O.Output.slots out.old }) (record { outcomes = outcomes.new; answers = O.Output.slots out.new }) result (Ran E.Evaluator.meaning E.RowEvaluator.stepped E.RowEvaluator.settling E.Evaluator.renewed evaluator.now E.Evaluator.WANTS_FRAMES from_zero O.Output.stored calls.now) }
+    ensures ends { PlayEnds {S = O.Output.Slots} O.Output.size calls.now.shown.values.now calls.now.shown.marks.now calls.now.records.now (record { outcomes = outcomes.old; answers = O.Output.slots out.old }) (record { outcomes = outcomes.new; answers = O.Output.slots out.new }) result (Ran E.Evaluator.meaning E.RowEvaluator.stepped E.RowEvaluator.settling E.Evaluator.renewed evaluator.now E.Evaluator.WANTS_FRAMES from_zero O.Output.stored) }
     ensures place { O.Output.place out.old out.new }
 {
     let room = outcomes.len().min(out.len());
     if room < calls.len() {
         return Err(Stop::Refused(Fault::ShortOutput(room)));
     }
-    let Played { run, entries } = replay(heap, evaluator, from_zero, calls)?;
-    write_entries(entries.as_slice(), outcomes, out);
+    let mut run = Run::Opened(Open::new(evaluator, from_zero));
+    for k in 0..calls.len() {
+        let (moved, entry) = act(run, &calls.get(k));
+        run = moved;
+        outcomes[k] = Noted::of(&entry.outcome);
+        put_answer(k, &entry.outcome, out);
+    }
     Ok(finish(run))
 }
 
 fn play_cells<C: Crossing, E: RowEvaluator<Value = C::Value, Answer = Option<C::Value>> + Drop>(
-    heap: Global,
     evaluator: &E,
     from_zero: bool,
-    calls: &[Call<'_, C::Value>],
+    calls: &Calls<'_, C::Value>,
     outcomes: &mut [Noted],
     values: &mut [C::Numbers],
     marks: &mut [u8],
 ) -> Result<Noted, Stop>
-    ensures { PlayEnds {S = LentSlots C.Numbers} lent_count (length calls.now) (record { outcomes = outcomes.old; answers = record { values = values.entry.now; marks = marks.old } }) (record { outcomes = outcomes.new; answers = record { values = values.exit.now; marks = marks.new } }) result (Ran E.Evaluator.meaning E.RowEvaluator.stepped E.RowEvaluator.settling E.Evaluator.renewed evaluator.now E.Evaluator.WANTS_FRAMES from_zero (put_lent C.Crossing.coding.encoded) calls.now) }
+    ensures { PlayEnds {S = LentSlots C.Numbers} lent_count calls.now.shown.values.now calls.now.shown.marks.now calls.now.records.now (record { outcomes = outcomes.old; answers = record { values = values.entry.now; marks = marks.old } }) (record { outcomes = outcomes.new; answers = record { values = values.exit.now; marks = marks.new } }) result (Ran E.Evaluator.meaning E.RowEvaluator.stepped E.RowEvaluator.settling E.Evaluator.renewed evaluator.now E.Evaluator.WANTS_FRAMES from_zero (put_lent C.Crossing.coding.encoded)) }
 {
     let mut out = LentCells {
         values,
         marks,
         crossing: PhantomData::<C>,
     };
-    play(heap, evaluator, from_zero, calls, outcomes, &mut out)
+    play(evaluator, from_zero, calls, outcomes, &mut out)
 }
 
 fn play_chosen<C: Crossing>(
-    heap: Global,
     chosen: &Chosen<C::Value>,
     from_zero: bool,
-    calls: &[Call<'_, C::Value>],
+    calls: &Calls<'_, C::Value>,
     outcomes: &mut [Noted],
     values: &mut [C::Numbers],
     marks: &mut [u8],
 ) -> Result<Noted, Stop>
-    ensures { PlayEnds {S = LentSlots C.Numbers} lent_count (length calls.now) (record { outcomes = outcomes.old; answers = record { values = values.entry.now; marks = marks.old } }) (record { outcomes = outcomes.new; answers = record { values = values.exit.now; marks = marks.new } }) result (ChosenRan chosen.now from_zero (put_lent C.Crossing.coding.encoded) calls.now) }
+    ensures { PlayEnds {S = LentSlots C.Numbers} lent_count calls.now.shown.values.now calls.now.shown.marks.now calls.now.records.now (record { outcomes = outcomes.old; answers = record { values = values.entry.now; marks = marks.old } }) (record { outcomes = outcomes.new; answers = record { values = values.exit.now; marks = marks.new } }) result (ChosenRan chosen.now from_zero (put_lent C.Crossing.coding.encoded)) }
 {
     match chosen {
         Chosen::Shift(shift) => {
-            play_cells::<C, _>(heap, shift, from_zero, calls, outcomes, values, marks)
+            play_cells::<C, _>(shift, from_zero, calls, outcomes, values, marks)
         }
-        Chosen::Nth(nth) => {
-            play_cells::<C, _>(heap, nth, from_zero, calls, outcomes, values, marks)
-        }
+        Chosen::Nth(nth) => { play_cells::<C, _>(nth, from_zero, calls, outcomes, values, marks) }
     }
 }
 
@@ -204,14 +190,13 @@ fn try_run_cells<C: Crossing>(
         script.marks,
         &mut room,
     )?;
-    let calls = read.shown().calls(heap, script.calls)?;
+    let calls = read.shown().calls(script.calls)?;
     let default = read_default::<C>(default)?;
     let chosen = function.choose(default)?;
     play_chosen::<C>(
-        heap,
         &chosen,
         function.is_from_zero(),
-        calls.as_slice(),
+        &calls,
         outcomes,
         values,
         marks,
@@ -253,37 +238,35 @@ pub fn run_cells<C: Crossing>(
 }
 
 fn play_numbers<E: RowEvaluator<Answer = u64> + Drop>(
-    heap: Global,
     evaluator: &E,
     from_zero: bool,
-    calls: &[Call<'_, E::Value>],
+    calls: &Calls<'_, E::Value>,
     outcomes: &mut [Noted],
     list: &mut [u64],
 ) -> Result<Noted, Stop>
-    ensures { PlayEnds {S = List ℕ} (λ s. length s) (length calls.now) (record { outcomes = outcomes.old; answers = list.old }) (record { outcomes = outcomes.new; answers = list.new }) result (Ran E.Evaluator.meaning E.RowEvaluator.stepped E.RowEvaluator.settling E.Evaluator.renewed evaluator.now E.Evaluator.WANTS_FRAMES from_zero (λ s i a. slice_set s i a) calls.now) }
+    ensures { PlayEnds {S = List ℕ} (λ s. length s) calls.now.shown.values.now calls.now.shown.marks.now calls.now.records.now (record { outcomes = outcomes.old; answers = list.old }) (record { outcomes = outcomes.new; answers = list.new }) result (Ran E.Evaluator.meaning E.RowEvaluator.stepped E.RowEvaluator.settling E.Evaluator.renewed evaluator.now E.Evaluator.WANTS_FRAMES from_zero (λ s i a. slice_set s i a)) }
 {
     let mut out = Numbers { list };
-    play(heap, evaluator, from_zero, calls, outcomes, &mut out)
+    play(evaluator, from_zero, calls, outcomes, &mut out)
 }
 
 fn play_ranking<K: Kind>(
-    heap: Global,
     ranking: Ranking,
     from_zero: bool,
-    calls: &[Call<'_, K>],
+    calls: &Calls<'_, K>,
     outcomes: &mut [Noted],
     list: &mut [u64],
 ) -> Result<Noted, Stop>
-    ensures { PlayEnds {S = List ℕ} (λ s. length s) (length calls.now) (record { outcomes = outcomes.old; answers = list.old }) (record { outcomes = outcomes.new; answers = list.new }) result (RankingRan K.Kind.same ranking from_zero calls.now) }
+    ensures { PlayEnds {S = List ℕ} (λ s. length s) calls.now.shown.values.now calls.now.shown.marks.now calls.now.records.now (record { outcomes = outcomes.old; answers = list.old }) (record { outcomes = outcomes.new; answers = list.new }) result (RankingRan K.Kind.same ranking from_zero) }
 {
     match ranking {
         Ranking::Rank(rank_type) => {
             let rank = Rank::<K>::new(rank_type);
-            play_numbers(heap, &rank, from_zero, calls, outcomes, list)
+            play_numbers(&rank, from_zero, calls, outcomes, list)
         }
         Ranking::RowNumber => {
             let row_number = RowNumber::<K>::new();
-            play_numbers(heap, &row_number, from_zero, calls, outcomes, list)
+            play_numbers(&row_number, from_zero, calls, outcomes, list)
         }
     }
 }
@@ -306,12 +289,11 @@ fn try_run_numbers<C: Crossing>(
         script.marks,
         &mut room,
     )?;
-    let calls = read.shown().calls(heap, script.calls)?;
+    let calls = read.shown().calls(script.calls)?;
     play_ranking(
-        heap,
         function.ranking(),
         function.is_from_zero(),
-        calls.as_slice(),
+        &calls,
         outcomes,
         answers,
     )
