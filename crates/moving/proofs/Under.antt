@@ -1,7 +1,10 @@
 -- A run on one partition: what it has answered so far, and where it stands.
-use Rattle.std.proofs.Common.{◌≡◌, ℕ, zero, suc, ◌+◌, ◌-◌, ◌<◌, ◌≤◌, ◌⊎◌, Bool, true, false, T, List, [], ◌∷◌, ◌++◌, map, length, take, drop, Some, None, Ok, Err, Option, sym, refl, ap, ◌∙◌, subst, ⊎_elim, arith}
+use Rattle.std.proofs.Common.{◌≡◌, min, max, ◌*◌, inl, inr, ℕ, zero, suc, ◌+◌, ◌-◌, ◌<◌, ◌≤◌, ◌⊎◌, Bool, true, false, T, List, [], ◌∷◌, ◌++◌, map, length, take, drop, get_or, add-one, Some, None, Ok, Err, Option, sym, refl, ap, ◌∙◌, subst, ⊎_elim, arith}
 use Rattle.std.specs.List.{slice_get, range_with_len}
-use Rattle.std.proofs.lemmas.List.{length_push, length-drop, length-take-le}
+use Rattle.std.proofs.Math.Nat.{suc-mul}
+use Rattle.std.proofs.Math.Seq.{get_or-append_seam}
+use Rattle.std.proofs.lemmas.Bool.{cases_lt}
+use Rattle.std.proofs.lemmas.List.{length_push, length-drop, length-take-le, get_or_append_left}
 use Rattle.std.proofs.lemmas.List.FromFn.{map-range_with_len_more}
 use Rattle.std.proofs.lemmas.Option.{same_Some, slice_get-get_or}
 use Rattle.column.specs.declared.fault.Fault.{Fault}
@@ -15,13 +18,16 @@ use Rattle.run.specs.Run.{Requested}
 use Rattle.run.specs.Shown.{Shows, Framed, shown, frame_at, based}
 use Rattle.run.proofs.Asks.{Kept}
 use Rattle.replay.specs.declared.calls.Call.TheVariants.{Request}
+use Rattle.replay.specs.History.{Marked}
 use Rattle.replay.specs.Act.{noted}
+use Rattle.moving.specs.Moving.{ShownAt, ShownAll, reached}
 use Rattle.replay.proofs.Steps.{Stays, Step, alike-step, step-request}
 
 -- i rows of the partition are answered
 pub record Under {V A S : Type 0} (meaning : S → Meaning V A) (d e : S) (wants : Bool) (b : Progress) (t : Option ℕ) (p : Partition V) (i : ℕ) : Type 0 where
   pub alike : Alike (meaning d) (meaning e)
   pub at : b.next ≡ i
+  pub set : b.from_zero ≡ false
   pub kept : Kept p b t
   pub stands : (meaning e).stands (based b.from_zero p) b.next
 
@@ -35,6 +41,7 @@ module _ {V A S : Type 0} (meaning : S → Meaning V A) (law : (e : S) → Laws 
         record {
           alike = alike-step (meaning d) (meaning e) (meaning e') u.alike y.alike;
           at = ap (λ (k : Progress). k.next) y.progress ∙ ap (λ (k : ℕ). k + 1) u.at;
+          set = ap (λ (k : Progress). k.from_zero) y.progress ∙ u.set;
           kept = subst (λ (k : Progress). Kept p k t) (sym y.progress) s.kept;
           stands = subst (λ (k : Progress). (meaning e').stands (based k.from_zero p) k.next) (sym y.progress) s.stands;
         },
@@ -47,6 +54,7 @@ module _ {V A S : Type 0} (meaning : S → Meaning V A) (law : (e : S) → Laws 
       record {
         alike = alike-step (meaning d) (meaning e) (meaning e') u.alike y.alike;
         at = ap (λ (k : Progress). k.next) y.progress ∙ omega (arith, u.at);
+        set = ap (λ (k : Progress). k.from_zero) y.progress ∙ u.set;
         kept = subst (λ (k : Progress). Kept p k t) (sym y.progress) s.kept;
         stands = subst (λ (k : Progress). (meaning e').stands (based k.from_zero p) k.next) (sym y.progress) s.stands;
       }
@@ -56,6 +64,7 @@ pub under_total : {V A S : Type 0} (meaning : S → Meaning V A) (d e e' : S) (w
 under_total {V = V} meaning d e e' wants b b' t t' p i n long u ee eb et = record {
   alike = subst (λ x. Alike (meaning d) (meaning x)) (sym ee) u.alike;
   at = ap (λ (k : Progress). k.next) eb ∙ u.at;
+  set = ap (λ (k : Progress). k.from_zero) eb ∙ u.set;
   kept = subst (λ (k : Progress). Kept p k t') (sym eb) (record {
     last = u.kept.last;
     ordered = u.kept.ordered;
@@ -108,3 +117,57 @@ pub one_more : {A : Type 0} (f : ℕ → A) (xs ys : List A) (a : A) → ys ≡ 
 one_more f xs ys a e h q =
     let n : length ys ≡ length xs + 1 = ap length e ∙ length_push xs a in
     e ∙ (ap (λ zs. zs ++ a ∷ []) h ∙ (ap (λ y. map f (range_with_len 0 (length xs)) ++ y ∷ []) q ∙ (sym (map-range_with_len_more f 0 (length xs) (length xs) (omega arith)) ∙ ap (λ (k : ℕ). map f (range_with_len 0 k)) (sym n))))
+
+-- the keep mark that was found is that of an evaluator that stands at the row
+pub marked_of : {V A S : Type 0} (meaning : S → Meaning V A) (d e : S) (wants : Bool) (b : Progress) (t : Option ℕ) (p : Partition V) (i mark : ℕ) → Under meaning d e wants b t p i → mark ≡ (meaning e).keep → Marked meaning d p i mark
+marked_of meaning d e wants b t p i mark u k = record {
+  at = e;
+  alike = u.alike;
+  stands = subst (λ (z : Bool). (meaning e).stands (based z p) i) u.set (subst (λ (n : ℕ). (meaning e).stands (based b.from_zero p) n) u.at u.stands);
+  keeps = k;
+}
+
+-- what was shown so far: of i rows
+pub record Shows-so-far {V A S : Type 0} (meaning : S → Meaning V A) (d : S) (p : Partition V) (step i : ℕ) (shown : List Frame) (early end : ℕ) : Type 0 where
+  pub as_many : length shown ≡ i
+  pub each : (k : ℕ) → k < i → ShownAt meaning d p step k (get_or shown k (0, 0))
+  pub ends : end ≡ reached (length p.rows) step early
+  pub few : early ≤ end
+  pub last : (i < length p.rows) ⊎ ((get_or shown (i - 1) (0, 0)).1 ≡ end)
+
+module _ {V A S : Type 0} (meaning : S → Meaning V A) (d : S) (p : Partition V) (step i : ℕ) (shown : List Frame) (early end : ℕ) (s : Shows-so-far meaning d p step i shown early end) where
+  -- one row more
+  pub shown_more : (shown' : List Frame) (mark begin : ℕ) → Marked meaning d p i mark → begin ≡ min mark end → shown' ≡ shown ++ (begin, end) ∷ [] → Shows-so-far meaning d p step (i + 1) shown' early end
+  shown_more shown' mark begin m b e =
+      let here : get_or shown' i (0, 0) ≡ (begin, end) = ap (λ xs. get_or xs i (0, 0)) e ∙ (ap (λ (k : ℕ). get_or (shown ++ (begin, end) ∷ []) k (0, 0)) (sym s.as_many) ∙ get_or-append_seam shown (begin, end) [] (0, 0)) in
+      record {
+        as_many = ap length e ∙ (length_push shown (begin, end) ∙ ap (λ (k : ℕ). k + 1) s.as_many);
+        each = λ k l. ⊎_elim
+            (λ lt. subst (ShownAt meaning d p step k) (sym (ap (λ xs. get_or xs k (0, 0)) e ∙ get_or_append_left shown ((begin, end) ∷ []) (0, 0) k (omega (arith, s.as_many)))) (s.each k lt))
+            (λ ge. let q : i ≡ k = omega arith in subst (λ (x : ℕ). ShownAt meaning d p step x (get_or shown' x (0, 0))) q (subst (ShownAt meaning d p step i) (sym here) (record { mark = mark; marked = m; begins = b; steps = early; ends = s.ends })))
+            (cases_lt k i);
+        ends = s.ends;
+        few = s.few;
+        last = let q : i + 1 - 1 ≡ i = omega arith in inr (ap (λ (k : ℕ). (get_or shown' k (0, 0)).1) q ∙ ap (λ (x : Frame). x.1) here);
+      }
+
+  -- one step more
+  pub shown_step : (early' end' : ℕ) → i < length p.rows → end < length p.rows → early' ≡ early + 1 → end' ≡ min (end + max step 1) (length p.rows) → Shows-so-far meaning d p step i shown early' end'
+  shown_step early' end' l lt e q =
+      let taken : early * max step 1 ≡ end = omega (arith, s.ends) in
+      let grown : early' * max step 1 ≡ early * max step 1 + max step 1 = ap (λ (k : ℕ). k * max step 1) (e ∙ add-one early) ∙ suc-mul early (max step 1) in
+      record {
+        as_many = s.as_many;
+        each = s.each;
+        ends = q ∙ ap (λ (x : ℕ). min x (length p.rows)) (ap (λ (k : ℕ). k + max step 1) (sym taken) ∙ sym grown);
+        few = omega (arith, s.few, e, q);
+        last = inl l;
+      }
+
+  -- all rows
+  pub shown_all : i ≡ length p.rows → ShownAll meaning d p step shown early
+  shown_all q = record {
+    as_many = s.as_many ∙ q;
+    each = λ k l. s.each k (omega arith);
+    last = ap (λ (k : ℕ). (get_or shown (k - 1) (0, 0)).1) (sym q) ∙ (⊎_elim (λ lt. absurd (omega arith)) (λ h. h) s.last ∙ s.ends);
+  }

@@ -1,8 +1,9 @@
-ghost use Rattle.std.specs.Prelude.{◌≡◌, ◌-◌, ◌<◌, ◌≤◌, ◌⊎◌, length, map, take, drop, Some, IfOk};
+ghost use Rattle.std.specs.Prelude.{◌≡◌, ◌+◌, ◌-◌, ◌<◌, ◌≤◌, ◌⊎◌, min, max, length, map, take, drop, Some, IfOk};
 ghost use Rattle.std.specs.List.{range_with_len, slice_get};
 ghost use Rattle.partition.specs.Table.{input, row_count};
 ghost use Rattle.evaluator.specs.Meaning.{partition};
 ghost use Rattle.run.specs.Run.{Requested, frame_or_none};
+ghost use Rattle.moving.specs.Moving.{ShownAll};
 ghost use Rattle.replay.specs.Act.{evaluator_of, progress_of, total_now};
 
 use crate::stop::Stop;
@@ -50,7 +51,9 @@ fn frame_of(frames: &[(usize, usize)], row: usize) -> Option<(usize, usize)>
 }
 
 // The lowest row that a window still has to show.
-fn keep_mark<E: RowEvaluator>(run: &Run<E>) -> usize {
+fn keep_mark<E: RowEvaluator>(run: &Run<E>) -> usize
+    ensures { result ≡ (E.Evaluator.meaning (evaluator_of run.now)).keep }
+{
     match run {
         Run::Opened(open) => open.keep_mark(),
         Run::Shut(closed) => closed.keep_mark(),
@@ -86,7 +89,7 @@ fn show_more<E: RowEvaluator + Drop>(
     n: usize,
 ) -> Result<Reach<E>, Fault>
     requires { reach.end < n }
-    ensures { IfOk result (λ r. (reach.end < r.end) × (r.end ≤ n) × (evaluator_of r.run ≡ evaluator_of reach.run) × (progress_of r.run ≡ progress_of reach.run) × ((total_now r.run ≡ total_now reach.run) ⊎ (total_now r.run ≡ Some n))) }
+    ensures { IfOk result (λ r. (r.end ≡ min (reach.end + max step 1) n) × (evaluator_of r.run ≡ evaluator_of reach.run) × (progress_of r.run ≡ progress_of reach.run) × ((total_now r.run ≡ total_now reach.run) ⊎ (total_now r.run ≡ Some n))) }
 {
     let end = reach.end.saturating_add(step.max(1)).min(n);
     let run = match reach.run {
@@ -107,6 +110,7 @@ pub fn answer_moving<E: RowEvaluator + Drop>(
     step: usize,
 ) -> Result<Moved<E::Answer>, Stop>
     ensures answers { IfOk result (λ m. m.answers.items ≡ map ((E.Evaluator.meaning evaluator.now).answer (partition E.Evaluator.WANTS_FRAMES (input rows.now))) (range_with_len 0 (row_count (input rows.now)))) }
+    ensures shown { IfOk result (λ m. ShownAll E.Evaluator.meaning evaluator.now (partition E.Evaluator.WANTS_FRAMES (input rows.now)) step m.shown.items m.too_early) }
 {
     let n = rows.column.values.len();
     check_whole(rows, E::WANTS_FRAMES, E::WANTS_GROUPS, n)?;
