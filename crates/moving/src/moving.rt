@@ -1,9 +1,9 @@
-ghost use Rattle.std.specs.Prelude.{◌≡◌, ◌+◌, ◌-◌, ◌<◌, ◌≤◌, ◌⊎◌, min, max, length, map, take, drop, Some, IfOk};
-ghost use Rattle.std.specs.List.{range_with_len, slice_get};
+ghost use Rattle.std.specs.Prelude.{◌≡◌, ◌+◌, ◌-◌, ◌<◌, ◌≤◌, ◌⊎◌, min, max, true, false, length, map, take, drop, Some, IfOk};
+ghost use Rattle.std.specs.List.{range_with_len, slice_get, position};
 ghost use Rattle.partition.specs.Table.{input, row_count};
 ghost use Rattle.evaluator.specs.Meaning.{partition};
-ghost use Rattle.run.specs.Run.{Requested, frame_or_none};
-ghost use Rattle.moving.specs.Moving.{ShownAll};
+ghost use Rattle.run.specs.Run.{Requested, Settled};
+ghost use Rattle.moving.specs.Moving.{ShownAll, begins_late, from_zero};
 ghost use Rattle.replay.specs.Act.{evaluator_of, progress_of, total_now};
 
 use crate::stop::Stop;
@@ -75,6 +75,41 @@ fn ask<E: RowEvaluator>(
     }
 }
 
+// Settles a run, open or closed, where that is wanted.
+fn settle<E: RowEvaluator>(run: &mut Run<E>, wanted: bool) -> Result<(), Fault>
+    ensures unwanted { wanted ≡ false → evaluator_of run.new ≡ evaluator_of run.old }
+    ensures settled { wanted ≡ true → Settled E.Evaluator.meaning E.Evaluator.WANTS_FRAMES (progress_of run.old) (evaluator_of run.old) (evaluator_of run.new) result }
+    ensures progress { progress_of run.new ≡ progress_of run.old }
+    ensures total { total_now run.new ≡ total_now run.old }
+{
+    if !wanted {
+        return Ok(());
+    }
+    match run {
+        Run::Opened(open) => open.settle(),
+        Run::Shut(closed) => closed.settle(),
+    }
+}
+
+fn begins_late(frame: (usize, usize)) -> bool
+    ensures { result ≡ begins_late frame }
+{
+    frame.0 > 0
+}
+
+fn first_late(frames: &[(usize, usize)]) -> Option<usize>
+    ensures { result ≡ position begins_late frames.now }
+{
+    frames.iter().position(|frame| begins_late(*frame))
+}
+
+// Whether no frame begins past row 0.
+fn all_from_zero(frames: &[(usize, usize)]) -> bool
+    ensures { result ≡ from_zero frames.now }
+{
+    first_late(frames).is_none()
+}
+
 // A run and the row after the last that it is shown.
 #[derive(Drop)]
 struct Reach<E> {
@@ -102,7 +137,8 @@ fn show_more<E: RowEvaluator + Drop>(
     Ok(Reach { run, end })
 }
 
-// Answers a partition row by row: a run is shown `step` rows more each time that its next row is too early, from the keep mark on.
+// Answers a partition row by row: a run is shown `step` rows more each time that its next row is too early, from the keep mark on,
+// and is settled after each answer where all frames begin at row 0.
 pub fn answer_moving<E: RowEvaluator + Drop>(
     heap: Global,
     evaluator: &E,
@@ -110,15 +146,16 @@ pub fn answer_moving<E: RowEvaluator + Drop>(
     step: usize,
 ) -> Result<Moved<E::Answer>, Stop>
     ensures answers { IfOk result (λ m. m.answers.items ≡ map ((E.Evaluator.meaning evaluator.now).answer (partition E.Evaluator.WANTS_FRAMES (input rows.now))) (range_with_len 0 (row_count (input rows.now)))) }
-    ensures shown { IfOk result (λ m. ShownAll E.Evaluator.meaning evaluator.now (partition E.Evaluator.WANTS_FRAMES (input rows.now)) step m.shown.items m.too_early) }
+    ensures shown { IfOk result (λ m. ShownAll E.Evaluator.meaning evaluator.now (partition E.Evaluator.WANTS_FRAMES (input rows.now)) (from_zero rows.now.frames.now) step m.shown.items m.too_early) }
 {
     let n = rows.column.values.len();
     check_whole(rows, E::WANTS_FRAMES, E::WANTS_GROUPS, n)?;
     let mut answers = Vec::with_capacity(heap, n)?;
     let mut shown = Vec::with_capacity(heap, n)?;
+    let settles = all_from_zero(rows.frames);
     let mut too_early = 0usize;
     let mut reach = Reach {
-        run: Run::Opened(Open::new(evaluator, false)),
+        run: Run::Opened(Open::new(evaluator, settles)),
         end: 0,
     };
     'rows: while answers.len() < n {
@@ -129,6 +166,7 @@ pub fn answer_moving<E: RowEvaluator + Drop>(
             Ok(answer) => {
                 answers.push(answer).map_err(AllocError::from)?;
                 shown.push((begin, reach.end)).map_err(AllocError::from)?;
+                settle(&mut reach.run, settles)?;
             }
             Err(Fault::TooEarly(_)) if reach.end < n => {
                 too_early = too_early.saturating_add(1);
