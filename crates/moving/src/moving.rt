@@ -149,7 +149,8 @@ pub fn answer_moving<E: RowEvaluator + Drop>(
     ensures shown { IfOk result (λ m. ShownAll E.Evaluator.meaning evaluator.now (partition E.Evaluator.WANTS_FRAMES (input rows.now)) (from_zero rows.now.frames.now) step m.shown.items m.too_early) }
 {
     let n = rows.column.values.len();
-    check_whole(rows, E::WANTS_FRAMES, E::WANTS_GROUPS, n)?;
+    // row by row peer groups are not looked at
+    check_whole(rows, E::WANTS_FRAMES, false, n)?;
     let mut answers = Vec::with_capacity(heap, n)?;
     let mut shown = Vec::with_capacity(heap, n)?;
     let settles = all_from_zero(rows.frames);
