@@ -27,6 +27,7 @@ fn largest(bytes: &[u8]) -> u8
 }
 
 // The first byte that is no mark.
+#[tactic(auto, using(crate::proofs::Largest::no_flaw))]
 fn mark_flaw(bytes: &[u8]) -> Option<usize>
     ensures { result ≡ mark_flaw bytes.now }
 {
