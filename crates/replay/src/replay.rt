@@ -1,78 +1,87 @@
 ghost use Rattle.std.specs.Prelude.{◌≡◌, length, IfOk};
-ghost use Rattle.replay.specs.Act.{Acted, Ended, Followed, evaluator_after, evaluator_of, progress_of};
-ghost use Rattle.replay.specs.History.{Replayed, history};
-ghost use Rattle.run.specs.declared.run.Run.TheVariants.{Opened, Shut};
+ghost use Rattle.replay.specs.declared.calls.Call.TheVariants.{Close};
+ghost use Rattle.replay.specs.Act.{Acted, Ended, Followed, evaluator_after, evaluator_of, progress_of, total_now};
+ghost use Rattle.replay.specs.History.{Replayed, close_outcome, history, total_after};
+ghost use Rattle.run.specs.Rows.{left_by};
+ghost use Rattle.run.specs.Run.{Requested, Settled, frame_or_none};
 
 use crate::calls::{Call, Entry, Reply};
+use column::column::Window;
+use column::fault::Fault;
 use run::rows::RowEvaluator;
-use run::run::{Closed, Open, Run};
+use run::run::{Open, Run};
 use std::alloc::{AllocError, Global};
 
-// A call on an open run; apart from one on a closed run, since only here a close moves the run.
-// One function over the stage would need an arm for a close too, and on an open run no outcome is right there.
-fn act_open<E: RowEvaluator>(
-    mut run: Open<E>,
-    call: &Call<'_, E::Value>,
-) -> (Run<E>, Entry<E::Answer>)
-    ensures acted { Acted E.Evaluator.meaning E.Evaluator.WANTS_FRAMES call.now (Opened run) result.0 result.1 }
-    ensures leaves { evaluator_of result.0 ≡ evaluator_after E.RowEvaluator.stepped E.RowEvaluator.settling run.progress call.now result.1.outcome run.evaluator }
+fn keep_mark<E: RowEvaluator>(run: &Run<E>) -> usize
+    ensures { result ≡ (E.Evaluator.meaning (evaluator_of run.now)).keep }
 {
-    let mark = run.keep_mark();
-    let outcome = match call {
-        Call::Request(window, frame) => run.request(window, *frame).map(Reply::Answer),
-        Call::Settle => run.settle().map(|_| Reply::Done),
-        Call::KeepMark => Ok(Reply::Mark(mark)),
-        Call::Close(total) => {
-            return match run.close(*total) {
-                Ok(closed) => (
-                    Run::Shut(closed),
-                    Entry {
-                        mark,
-                        outcome: Ok(Reply::Done),
-                    },
-                ),
-                Err((fault, open)) => (
-                    Run::Opened(open),
-                    Entry {
-                        mark,
-                        outcome: Err(fault),
-                    },
-                ),
-            };
-        }
-    };
-    (Run::Opened(run), Entry { mark, outcome })
+    match run {
+        Run::Opened(open) => open.keep_mark(),
+        Run::Shut(closed) => closed.keep_mark(),
+    }
 }
 
-fn act_closed<E: RowEvaluator>(
-    mut run: Closed<E>,
-    call: &Call<'_, E::Value>,
-) -> (Run<E>, Entry<E::Answer>)
-    ensures acted { Acted E.Evaluator.meaning E.Evaluator.WANTS_FRAMES call.now (Shut run) result.0 result.1 }
-    ensures leaves { evaluator_of result.0 ≡ evaluator_after E.RowEvaluator.stepped E.RowEvaluator.settling run.progress call.now result.1.outcome run.evaluator }
+fn request<E: RowEvaluator>(
+    run: &mut Run<E>,
+    window: &Window<'_, E::Value>,
+    frame: Option<(usize, usize)>,
+) -> Result<E::Answer, Fault>
+    ensures asked { Requested E.Evaluator.meaning E.Evaluator.WANTS_FRAMES (total_now run.old) window.now frame (evaluator_of run.old) (evaluator_of run.new) (progress_of run.old) (progress_of run.new) result }
+    ensures leaves { evaluator_of run.new ≡ left_by result (evaluator_of run.old) (E.RowEvaluator.stepped (evaluator_of run.old) (progress_of run.old).next window.now (frame_or_none frame)) }
+    ensures total { total_now run.new ≡ total_now run.old }
 {
-    let mark = run.keep_mark();
-    let outcome = match call {
-        Call::Request(window, frame) => run.request(window, *frame).map(Reply::Answer),
-        Call::Settle => run.settle().map(|_| Reply::Done),
-        Call::KeepMark => Ok(Reply::Mark(mark)),
-        Call::Close(_) => Ok(Reply::NotTaken),
-    };
-    (Run::Shut(run), Entry { mark, outcome })
+    match run {
+        Run::Opened(open) => open.request(window, frame),
+        Run::Shut(closed) => closed.request(window, frame),
+    }
+}
+
+fn settle<E: RowEvaluator>(run: &mut Run<E>) -> Result<(), Fault>
+    ensures settled { Settled E.Evaluator.meaning E.Evaluator.WANTS_FRAMES (progress_of run.old) (evaluator_of run.old) (evaluator_of run.new) result }
+    ensures leaves { evaluator_of run.new ≡ left_by result (evaluator_of run.old) (E.RowEvaluator.settling (evaluator_of run.old) (progress_of run.old).next (progress_of run.old).last) }
+    ensures progress { progress_of run.new ≡ progress_of run.old }
+    ensures total { total_now run.new ≡ total_now run.old }
+{
+    match run {
+        Run::Opened(open) => open.settle(),
+        Run::Shut(closed) => closed.settle(),
+    }
+}
+
+// A closed run does not take a close.
+fn close<E: RowEvaluator>(run: Run<E>, total: usize) -> (Run<E>, Result<Reply<E::Answer>, Fault>)
+    ensures outcome { result.1 ≡ close_outcome (progress_of run) (total_now run) total }
+    ensures total { total_now result.0 ≡ total_after {V = E.Value} (total_now run) (Close total) result.1 }
+    ensures rest { (evaluator_of result.0 ≡ evaluator_of run) × (progress_of result.0 ≡ progress_of run) }
+{
+    match run {
+        Run::Opened(open) => match open.close(total) {
+            Ok(closed) => (Run::Shut(closed), Ok(Reply::Done)),
+            Err((fault, open)) => (Run::Opened(open), Err(fault)),
+        },
+        Run::Shut(closed) => (Run::Shut(closed), Ok(Reply::NotTaken)),
+    }
 }
 
 // Makes one call on a run.
 pub fn act<E: RowEvaluator>(
-    run: Run<E>,
+    mut run: Run<E>,
     call: &Call<'_, E::Value>,
 ) -> (Run<E>, Entry<E::Answer>)
     ensures acted { Acted E.Evaluator.meaning E.Evaluator.WANTS_FRAMES call.now run result.0 result.1 }
     ensures leaves { evaluator_of result.0 ≡ evaluator_after E.RowEvaluator.stepped E.RowEvaluator.settling (progress_of run) call.now result.1.outcome (evaluator_of run) }
 {
-    match run {
-        Run::Opened(open) => act_open(open, call),
-        Run::Shut(closed) => act_closed(closed, call),
-    }
+    let mark = keep_mark(&run);
+    let outcome = match call {
+        Call::Request(window, frame) => request(&mut run, window, *frame).map(Reply::Answer),
+        Call::Settle => settle(&mut run).map(|_| Reply::Done),
+        Call::KeepMark => Ok(Reply::Mark(mark)),
+        Call::Close(total) => {
+            let (moved, outcome) = close(run, *total);
+            return (moved, Entry { mark, outcome });
+        }
+    };
+    (run, Entry { mark, outcome })
 }
 
 // A run after a list of calls, and what came of each.

@@ -100,6 +100,8 @@ impl<'a, K: Kind> Calls<'a, K> {
         self.records.len()
     }
 
+    // Call number k.
+    #[tactic(auto, using(crate::proofs::Flaws::no_flaw))]
     pub(crate) fn get(&self, k: usize) -> Call<'a, K>
         requires { k < length self.now.records.now }
         ensures { Stands self.now.shown.values.now self.now.shown.marks.now (get_or self.now.records.now k []) result }

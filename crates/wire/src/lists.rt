@@ -1,5 +1,5 @@
 // Lists as C lends them.
-ghost use Rattle.std.specs.Prelude.{◌≡◌, IfOk};
+ghost use Rattle.std.specs.Prelude.{◌≡◌, ℕ, ◌<◌, ◌≤◌, length, get_or, IfOk};
 ghost use Rattle.wire.specs.Stops.{Makes, stopped};
 ghost use Rattle.wire.specs.Lists.{mark_flaw, marks_of, pairs_of};
 ghost use Rattle.wire.specs.declared.stop.Stop.TheVariants.{Mark};
@@ -15,10 +15,25 @@ pub struct Span {
     pub end: usize,
 }
 
+// The largest byte: a loop without an early end, which is compiled to one over many bytes at once.
+fn largest(bytes: &[u8]) -> u8
+    ensures { (k : ℕ) → k < length bytes.now → get_or bytes.now k 0 ≤ result }
+{
+    let mut largest = 0;
+    for byte in bytes {
+        largest = largest.max(*byte);
+    }
+    largest
+}
+
 // The first byte that is no mark.
+#[tactic(auto, using(crate::proofs::Largest::no_flaw))]
 fn mark_flaw(bytes: &[u8]) -> Option<usize>
     ensures { result ≡ mark_flaw bytes.now }
 {
+    if largest(bytes) <= 1 {
+        return None;
+    }
     bytes.iter().position(|byte| *byte > 1)
 }
 

@@ -22,8 +22,8 @@ loop-call-preserved g c =
     let (going, long) = c.loop-call.invariant in
     let acted = c.act-moved.ensures in (
       subst (Going g.E.Evaluator.meaning g.E.RowEvaluator.stepped g.E.RowEvaluator.settling g.E.Evaluator.renewed c.args.evaluator.now g.E.Evaluator.WANTS_FRAMES c.args.from_zero moved)
-      (sym (history-next calls i call notes notes' entry long c.loop-call-test.true c.call-item.is c.in_ok-push.ensures.items))
-      (going_more g.E.Evaluator.meaning g.E.RowEvaluator.stepped g.E.RowEvaluator.settling g.E.Evaluator.renewed c.args.evaluator.now g.E.Evaluator.WANTS_FRAMES c.args.from_zero g.met.E.Evaluator.lawful c.loop-call.run moved (history (take i calls) notes) call entry going acted.acted acted.leaves),
+          (sym (history-next calls i call notes notes' entry long c.loop-call-test.true c.call-item.is c.in_ok-push.ensures.items))
+          (going_more g.E.Evaluator.meaning g.E.RowEvaluator.stepped g.E.RowEvaluator.settling g.E.Evaluator.renewed c.args.evaluator.now g.E.Evaluator.WANTS_FRAMES c.args.from_zero g.met.E.Evaluator.lawful c.loop-call.run moved (history (take i calls) notes) call entry going acted.acted acted.leaves),
       ap length c.in_ok-push.ensures.items ∙ (length_push notes entry ∙ ap (λ (k : ℕ). k + 1) long),
     )
 
@@ -33,5 +33,5 @@ returns g c =
     let entries = vec_items c.loop-call.entries in
     let all : history (take c.loop-call.call-index c.args.calls.now) entries ≡ history c.args.calls.now entries = ap (λ x. history x entries) (take_all c.loop-call.call-index c.args.calls.now (omega arith)) in
     let law = going_ends g.E.Evaluator.meaning g.E.RowEvaluator.stepped g.E.RowEvaluator.settling g.E.Evaluator.renewed c.args.evaluator.now g.E.Evaluator.WANTS_FRAMES c.args.from_zero c.loop-call.run (history c.args.calls.now entries)
-        (subst (Going g.E.Evaluator.meaning g.E.RowEvaluator.stepped g.E.RowEvaluator.settling g.E.Evaluator.renewed c.args.evaluator.now g.E.Evaluator.WANTS_FRAMES c.args.from_zero c.loop-call.run) all going) in
+    (subst (Going g.E.Evaluator.meaning g.E.RowEvaluator.stepped g.E.RowEvaluator.settling g.E.Evaluator.renewed c.args.evaluator.now g.E.Evaluator.WANTS_FRAMES c.args.from_zero c.loop-call.run) all going) in
     (long ∙ omega arith, law.0, law.1, law.2)
