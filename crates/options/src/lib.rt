@@ -1,0 +1,8 @@
+#![tactic(auto)]
+
+// The words of the desk's program: a command, its options, and what is wrong with words that are no command.
+pub mod asked;
+pub mod command;
+pub mod frame;
+pub mod function;
+pub mod misuse;
