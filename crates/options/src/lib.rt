@@ -4,5 +4,7 @@
 pub mod asked;
 pub mod command;
 pub mod frame;
+pub mod frame_text;
 pub mod function;
 pub mod misuse;
+mod words;
