@@ -1,3 +1,5 @@
 pub mod FrameTexts
 pub mod Frames
+pub mod Functions
+pub mod Keys
 pub mod Words

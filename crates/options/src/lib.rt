@@ -6,5 +6,6 @@ pub mod command;
 pub mod frame;
 pub mod frame_text;
 pub mod function;
+pub mod key;
 pub mod misuse;
 mod words;

@@ -1,23 +1,5 @@
 use crate::function::Function;
-
-// The options, and the file that stands among them.
-#[derive(Clone, Copy)]
-pub enum Key {
-    Of,
-    PartitionBy,
-    OrderBy,
-    Offset,
-    N,
-    Default,
-    IgnoreNulls,
-    Frame,
-    Kind,
-    As,
-    ByRows,
-    Quiet,
-    Rows,
-    File,
-}
+use crate::key::Key;
 
 // What is wrong with words that are no command.
 #[derive(Clone, Copy)]
