@@ -1,1 +1,2 @@
+mod Givens
 mod Pieces

@@ -3,3 +3,4 @@ pub mod Frames
 pub mod Functions
 pub mod Keys
 pub mod Words
+pub mod Given

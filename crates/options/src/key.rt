@@ -1,4 +1,4 @@
-ghost use Rattle.std.specs.Prelude.{◌≡◌, MatchOption, Some};
+ghost use Rattle.std.specs.Prelude.{◌≡◌, ◌↔◌, IsTrue, Some};
 ghost use Rattle.options.specs.Keys.{NamesKey, key_text, has_value};
 
 use std::fmt;
@@ -77,6 +77,13 @@ impl fmt::Display for Key {
 }
 
 impl Key {
+    // Whether two options are the same.
+    pub fn is(self, other: Key) -> bool
+        ensures { IsTrue result ↔ (self ≡ other) }
+    {
+        self == other
+    }
+
     // Whether a value stands behind the option.
     pub fn has_value(self) -> bool
         ensures { result ≡ has_value self }

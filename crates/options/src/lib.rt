@@ -6,6 +6,7 @@ pub mod command;
 pub mod frame;
 pub mod frame_text;
 pub mod function;
+mod given;
 pub mod key;
 pub mod misuse;
 mod words;
