@@ -16,7 +16,7 @@ use Rattle.options.specs.Values.{ArgumentIs, BadByRows, BadFrame, BadKind, ByRow
 
 -- the function takes each of the first n options
 abbrev pub TakenBelow : Function → Bool → List Given → ℕ → Type 0
-TakenBelow f drawn gs n = (k : ℕ) (d : Given) → k < n → takes f drawn (slice_index_or gs k d).key ≡ true
+TakenBelow f drawn gs n = (k : ℕ) → k < n → (d : Given) → takes f drawn (slice_index_or gs k d).key ≡ true
 
 -- the function takes each option
 abbrev pub AllTaken : Function → Bool → List Given → Type 0

@@ -67,6 +67,7 @@ OneFault ws k (misuse.UnknownKind text) = ⊥
 OneFault ws k (misuse.BadRows text) = ⊥
 OneFault ws k (misuse.BadFrame text fault) = ⊥
 OneFault ws k (misuse.TooManyWords word) = ⊥
+OneFault ws k misuse.NoRefusal = ⊥
 OneFault ws k (misuse.UnknownRefusal text) = ⊥
 
 -- the option is given already

@@ -1,4 +1,5 @@
 pub mod Asking
+pub mod Commands
 pub mod FrameTexts
 pub mod Frames
 pub mod Functions

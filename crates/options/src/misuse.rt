@@ -22,6 +22,7 @@ pub enum Misuse<'a> {
     BadRows(&'a str),
     BadFrame { text: &'a str, fault: FrameFault },
     TooManyWords(&'a str),
+    NoRefusal,
     UnknownRefusal(&'a str),
 }
 

@@ -1,6 +1,8 @@
 // The command that words stand for.
-ghost use Rattle.std.specs.Prelude.{◌≡◌, ◌<◌, MatchOption, MatchResult, length};
+ghost use Rattle.std.specs.Prelude.{◌≡◌, ◌↔◌, IsTrue, MatchResult};
+ghost use Rattle.options.specs.Functions.{function_text};
 ghost use Rattle.options.specs.Asking.{AllTaken, Asks, HasColumn, NoColumn, NotAsked, Strays};
+ghost use Rattle.options.specs.Commands.{Draws, IsAnswer, IsHelp, IsPicture, Means, NoCommand, NoName, NotAnswer, NotDrawn, NotOneFile, NotOneNumber, NotPicture, OneFile, OneNumber, Says, SaysNothing, Unwanted, UnwantedPicture, Wants, WantsPicture};
 
 use crate::asked::Asked;
 use crate::command::{Command, Topic};
@@ -75,4 +77,143 @@ fn asked<'a>(
         quiet: flag(given, Key::Quiet),
         file: file(given),
     })
+}
+
+// The one file that words name, or none.
+fn one_file<'a>(words: &[&'a str]) -> Result<Option<&'a str>, Misuse<'a>>
+    ensures { MatchResult result (OneFile words.now) (NotOneFile words.now) }
+{
+    if let Some(second) = words.get(1) {
+        return Err(Misuse::TooManyWords(second));
+    }
+    match words.first() {
+        None => Ok(None),
+        Some(word) if word.starts_with("--") => Err(Misuse::UnknownOption(word)),
+        Some(word) => Ok(named_file(word)),
+    }
+}
+
+// The number of a refusal.
+fn refusal<'a>(words: &[&'a str]) -> Result<usize, Misuse<'a>>
+    ensures { MatchResult result (OneNumber words.now) (NotOneNumber words.now) }
+{
+    if let Some(second) = words.get(1) {
+        return Err(Misuse::TooManyWords(second));
+    }
+    let word = words.first().ok_or(Misuse::NoRefusal)?;
+    match count_of(word) {
+        Some(number) if (1..=REFUSALS).contains(&number) => Ok(number),
+        _ => Err(Misuse::UnknownRefusal(word)),
+    }
+}
+
+// The function that a word names.
+fn function<'a>(word: &'a str) -> Result<Function, Misuse<'a>>
+    ensures { MatchResult result (λ f. word.now ≡ function_text f) (NoName word.entry) }
+{
+    word.parse().map_err(|_| Misuse::UnknownFunction(word))
+}
+
+// Whether words are `--help` alone.
+fn is_help(words: &[&str]) -> bool
+    ensures { IsTrue result ↔ IsHelp words.now }
+{
+    words.len() == 1 && words[0] == "--help"
+}
+
+// What words ask of a function.
+fn wanted<'a>(heap: Global, function: Function, words: &[&'a str]) -> Result<Asked<'a>, Misuse<'a>>
+    ensures { MatchResult result (Wants function words.now) (Unwanted function words.now) }
+{
+    let given = read_given(heap, words)?;
+    let asked = asked(heap, function, false, given.as_slice())?;
+    Ok(asked)
+}
+
+// A function with its options, answered.
+fn answer<'a>(heap: Global, name: &'a str, words: &[&'a str]) -> Result<Command<'a>, Misuse<'a>>
+    ensures { MatchResult result (IsAnswer name.now words.now) (NotAnswer name.entry words.now) }
+{
+    let function = function(name)?;
+    if is_help(words) {
+        return Ok(Command::Help(Topic::Function(function)));
+    }
+    let asked = wanted(heap, function, words)?;
+    Ok(Command::Answer(asked))
+}
+
+// A picture that options ask for.
+fn drawn<'a>(
+    heap: Global,
+    function: Function,
+    given: &[Given<'a>],
+) -> Result<Command<'a>, Misuse<'a>>
+    ensures { MatchResult result (Draws function given.now) (NotDrawn function given.now) }
+{
+    let asked = asked(heap, function, true, given)?;
+    let rows = rows(given)?;
+    Ok(Command::Picture { asked, rows })
+}
+
+// A picture that words ask for.
+fn wanted_picture<'a>(
+    heap: Global,
+    function: Function,
+    words: &[&'a str],
+) -> Result<Command<'a>, Misuse<'a>>
+    ensures { MatchResult result (WantsPicture function words.now) (UnwantedPicture function words.now) }
+{
+    let given = read_given(heap, words)?;
+    let picture = drawn(heap, function, given.as_slice())?;
+    Ok(picture)
+}
+
+// A function with its options, drawn.
+fn picture<'a>(heap: Global, words: &[&'a str]) -> Result<Command<'a>, Misuse<'a>>
+    ensures { MatchResult result (IsPicture words.now) (NotPicture words.now) }
+{
+    let (name, options) = words.split_first().ok_or(Misuse::NoFunction)?;
+    let function = function(name)?;
+    let picture = wanted_picture(heap, function, options)?;
+    Ok(picture)
+}
+
+// The command of a word and those behind it.
+fn command<'a>(heap: Global, name: &'a str, words: &[&'a str]) -> Result<Command<'a>, Misuse<'a>>
+    ensures { MatchResult result (Says name.now words.now) (SaysNothing name.entry words.now) }
+{
+    match name {
+        "report" => {
+            let file = one_file(words)?;
+            Ok(Command::Report { file })
+        }
+        "replay" => {
+            let file = one_file(words)?;
+            Ok(Command::Replay { file })
+        }
+        "explain" => {
+            let number = refusal(words)?;
+            Ok(Command::Explain { number })
+        }
+        "picture" => {
+            let picture = picture(heap, words)?;
+            Ok(picture)
+        }
+        _ => {
+            let answer = answer(heap, name, words)?;
+            Ok(answer)
+        }
+    }
+}
+
+// The command of a program's words.
+pub fn parse<'a>(heap: Global, words: &[&'a str]) -> Result<Command<'a>, Misuse<'a>>
+    ensures { MatchResult result (Means words.now) (NoCommand words.now) }
+{
+    if is_help(words) {
+        return Ok(Command::Help(Topic::Program));
+    }
+    let (name, others) = words.split_first().ok_or(Misuse::NoFunction)?;
+    let command = command(heap, name, others)?;
+    Ok(command)
 }
