@@ -6,7 +6,7 @@ use Rattle.options.specs.declared.command.Command.{Command}
 use Rattle.options.specs.declared.command.Command.TheVariants.{Answer, Picture, Replay, Report, Explain, Help}
 use Rattle.options.specs.declared.command.Topic.{Topic}
 use Rattle.options.specs.declared.command.Topic.TheVariants as topic
-use Rattle.options.specs.declared.command.Rows.{Rows}
+use Rattle.options.specs.declared.command.Drawing.{Drawing}
 use Rattle.options.specs.declared.function.Function.{Function}
 use Rattle.options.specs.declared.given.Given.{Given}
 use Rattle.options.specs.declared.misuse.Misuse.{Misuse}
@@ -69,7 +69,7 @@ abbrev pub IsAnswer : List ℕ → List (Bor (List ℕ)) → Command → Type 0
 IsAnswer name ws (Help topic.Program) = ⊥
 IsAnswer name ws (Help (topic.Function f)) = (name ≡ function_text f) × IsHelp ws
 IsAnswer name ws (Answer a) = (f : Function) × (name ≡ function_text f) × ¬ (IsHelp ws) × Wants f ws a
-IsAnswer name ws (Picture a rows) = ⊥
+IsAnswer name ws (Picture d) = ⊥
 IsAnswer name ws (Replay file) = ⊥
 IsAnswer name ws (Report file) = ⊥
 IsAnswer name ws (Explain n) = ⊥
@@ -78,34 +78,30 @@ IsAnswer name ws (Explain n) = ⊥
 abbrev pub NotAnswer : Bor (List ℕ) → List (Bor (List ℕ)) → Misuse → Type 0
 NotAnswer name ws m = NoName name m ⊎ ((f : Function) × (name.now ≡ function_text f) × ¬ (IsHelp ws) × Unwanted f ws m)
 
--- a picture of what options ask, of the rows that they give
-abbrev pub Draws : Function → List Given → Command → Type 0
-Draws f gs (Picture a rows) = Asks f true gs a × RowsAre gs rows
-Draws f gs (Help t) = ⊥
-Draws f gs (Answer a) = ⊥
-Draws f gs (Replay file) = ⊥
-Draws f gs (Report file) = ⊥
-Draws f gs (Explain n) = ⊥
+-- a picture of what options ask, and of the rows that they give
+pub record Draws (f : Function) (gs : List Given) (d : Drawing) : Type 0 where
+  pub asked : Asks f true gs d.asked
+  pub rows : RowsAre gs d.rows
 
 -- options that ask nothing of the function, or give rows that are none
 abbrev pub NotDrawn : Function → List Given → Misuse → Type 0
 NotDrawn f gs m = NotAsked f true gs m ⊎ ((a : Asked) × Asks f true gs a × BadRows gs m)
 
 -- the same for the words of options
-abbrev pub WantsPicture : Function → List (Bor (List ℕ)) → Command → Type 0
-WantsPicture f ws c = (gs : List Given) × Gives ws gs × Draws f gs c
+abbrev pub WantsDrawing : Function → List (Bor (List ℕ)) → Drawing → Type 0
+WantsDrawing f ws d = (gs : List Given) × Gives ws gs × Draws f gs d
 
-abbrev pub UnwantedPicture : Function → List (Bor (List ℕ)) → Misuse → Type 0
-UnwantedPicture f ws m = Ungiven ws m ⊎ ((gs : List Given) × Gives ws gs × NotDrawn f gs m)
+abbrev pub UnwantedDrawing : Function → List (Bor (List ℕ)) → Misuse → Type 0
+UnwantedDrawing f ws m = Ungiven ws m ⊎ ((gs : List Given) × Gives ws gs × NotDrawn f gs m)
 
 -- a function's name and its options
-abbrev pub IsPicture : List (Bor (List ℕ)) → Command → Type 0
-IsPicture [] c = ⊥
-IsPicture (name ∷ ws) c = (f : Function) × (name.now ≡ function_text f) × WantsPicture f ws c
+abbrev pub IsDrawing : List (Bor (List ℕ)) → Drawing → Type 0
+IsDrawing [] d = ⊥
+IsDrawing (name ∷ ws) d = (f : Function) × (name.now ≡ function_text f) × WantsDrawing f ws d
 
-abbrev pub NotPicture : List (Bor (List ℕ)) → Misuse → Type 0
-NotPicture [] m = m ≡ misuse.NoFunction
-NotPicture (name ∷ ws) m = NoName name m ⊎ ((f : Function) × (name.now ≡ function_text f) × UnwantedPicture f ws m)
+abbrev pub NotDrawing : List (Bor (List ℕ)) → Misuse → Type 0
+NotDrawing [] m = m ≡ misuse.NoFunction
+NotDrawing (name ∷ ws) m = NoName name m ⊎ ((f : Function) × (name.now ≡ function_text f) × UnwantedDrawing f ws m)
 
 -- no command's word
 abbrev pub Other : List ℕ → Type 0
@@ -116,7 +112,7 @@ abbrev pub Says : List ℕ → List (Bor (List ℕ)) → Command → Type 0
 Says word ws c = ((word ≡ codes "report") × ((file : Option (Bor (List ℕ))) × OneFile ws file × (c ≡ Report file)))
     ⊎ (((word ≡ codes "replay") × ((file : Option (Bor (List ℕ))) × OneFile ws file × (c ≡ Replay file)))
     ⊎ (((word ≡ codes "explain") × ((n : ℕ) × OneNumber ws n × (c ≡ Explain n)))
-    ⊎ (((word ≡ codes "picture") × IsPicture ws c)
+    ⊎ (((word ≡ codes "picture") × ((d : Drawing) × IsDrawing ws d × (c ≡ Picture d)))
     ⊎ (Other word × IsAnswer word ws c))))
 
 -- what is wrong with a word and those behind it
@@ -124,7 +120,7 @@ abbrev pub SaysNothing : Bor (List ℕ) → List (Bor (List ℕ)) → Misuse →
 SaysNothing w ws m = ((w.now ≡ codes "report") × NotOneFile ws m)
     ⊎ (((w.now ≡ codes "replay") × NotOneFile ws m)
     ⊎ (((w.now ≡ codes "explain") × NotOneNumber ws m)
-    ⊎ (((w.now ≡ codes "picture") × NotPicture ws m)
+    ⊎ (((w.now ≡ codes "picture") × NotDrawing ws m)
     ⊎ (Other w.now × NotAnswer w ws m))))
 
 -- the command of words: help, or what the first says with those behind it

@@ -2,10 +2,10 @@
 ghost use Rattle.std.specs.Prelude.{◌≡◌, ◌↔◌, IsTrue, MatchResult};
 ghost use Rattle.options.specs.Functions.{function_text};
 ghost use Rattle.options.specs.Asking.{AllTaken, Asks, HasColumn, NoColumn, NotAsked, Strays};
-ghost use Rattle.options.specs.Commands.{Draws, IsAnswer, IsHelp, IsPicture, Means, NoCommand, NoName, NotAnswer, NotDrawn, NotOneFile, NotOneNumber, NotPicture, OneFile, OneNumber, Says, SaysNothing, Unwanted, UnwantedPicture, Wants, WantsPicture};
+ghost use Rattle.options.specs.Commands.{Draws, IsAnswer, IsDrawing, IsHelp, Means, NoCommand, NoName, NotAnswer, NotDrawing, NotDrawn, NotOneFile, NotOneNumber, OneFile, OneNumber, Says, SaysNothing, Unwanted, UnwantedDrawing, Wants, WantsDrawing};
 
 use crate::asked::Asked;
-use crate::command::{Command, Topic};
+use crate::command::{Command, Drawing, Topic};
 use crate::frame_text::count_of;
 use crate::function::Function;
 use crate::given::{Given, read_given, value_of};
@@ -147,35 +147,35 @@ fn drawn<'a>(
     heap: Global,
     function: Function,
     given: &[Given<'a>],
-) -> Result<Command<'a>, Misuse<'a>>
+) -> Result<Drawing<'a>, Misuse<'a>>
     ensures { MatchResult result (Draws function given.now) (NotDrawn function given.now) }
 {
     let asked = asked(heap, function, true, given)?;
     let rows = rows(given)?;
-    Ok(Command::Picture { asked, rows })
+    Ok(Drawing { asked, rows })
 }
 
 // A picture that words ask for.
-fn wanted_picture<'a>(
+fn wanted_drawing<'a>(
     heap: Global,
     function: Function,
     words: &[&'a str],
-) -> Result<Command<'a>, Misuse<'a>>
-    ensures { MatchResult result (WantsPicture function words.now) (UnwantedPicture function words.now) }
+) -> Result<Drawing<'a>, Misuse<'a>>
+    ensures { MatchResult result (WantsDrawing function words.now) (UnwantedDrawing function words.now) }
 {
     let given = read_given(heap, words)?;
-    let picture = drawn(heap, function, given.as_slice())?;
-    Ok(picture)
+    let drawing = drawn(heap, function, given.as_slice())?;
+    Ok(drawing)
 }
 
 // A function with its options, drawn.
-fn picture<'a>(heap: Global, words: &[&'a str]) -> Result<Command<'a>, Misuse<'a>>
-    ensures { MatchResult result (IsPicture words.now) (NotPicture words.now) }
+fn drawing<'a>(heap: Global, words: &[&'a str]) -> Result<Drawing<'a>, Misuse<'a>>
+    ensures { MatchResult result (IsDrawing words.now) (NotDrawing words.now) }
 {
     let (name, options) = words.split_first().ok_or(Misuse::NoFunction)?;
     let function = function(name)?;
-    let picture = wanted_picture(heap, function, options)?;
-    Ok(picture)
+    let drawing = wanted_drawing(heap, function, options)?;
+    Ok(drawing)
 }
 
 // The command of a word and those behind it.
@@ -196,8 +196,8 @@ fn command<'a>(heap: Global, name: &'a str, words: &[&'a str]) -> Result<Command
             Ok(Command::Explain { number })
         }
         "picture" => {
-            let picture = picture(heap, words)?;
-            Ok(picture)
+            let drawing = drawing(heap, words)?;
+            Ok(Command::Picture(drawing))
         }
         _ => {
             let answer = answer(heap, name, words)?;
