@@ -7,4 +7,5 @@ pub mod Keys
 pub mod Kinds
 pub mod Words
 pub mod Given
+pub mod Messages
 pub mod Values
