@@ -1,0 +1,3 @@
+pub mod Quotes
+pub mod Plains
+pub mod Begun

@@ -1,0 +1,7 @@
+#![tactic(auto)]
+
+// A CSV file as flat lists of its records and fields, which borrow from its text.
+pub mod fault;
+mod field;
+mod row;
+mod stop;
