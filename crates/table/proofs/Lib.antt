@@ -1,3 +1,4 @@
 pub mod Quotes
 pub mod Plains
 pub mod Begun
+pub mod Sofar

@@ -3,5 +3,7 @@
 // A CSV file as flat lists of its records and fields, which borrow from its text.
 pub mod fault;
 mod field;
+pub mod place;
+pub mod read;
 mod row;
 mod stop;
