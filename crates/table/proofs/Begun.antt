@@ -61,8 +61,7 @@ module _ (text : List ℕ) (at : ℕ) (rest : List ℕ) (old new pushed : List (
   unfolding front
   row_ends end last behind e field b_is ends =
       let whole = cut_whole behind e in
-      let taken : take (at + length raw.now) text ≡ front = ap (λ n. take n text) front_len ∙ ap (λ l. take (length front) l) whole ∙ take-append_seam front behind in
-      (
+      let taken : take (at + length raw.now) text ≡ front = ap (λ n. take n text) front_len ∙ ap (λ l. take (length front) l) whole ∙ take-append_seam front behind in (
         b.fields ++ (raw ∷ []),
         all,
         record {

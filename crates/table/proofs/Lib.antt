@@ -2,3 +2,5 @@ pub mod Quotes
 pub mod Plains
 pub mod Begun
 pub mod Sofar
+pub mod Undoubled
+pub mod Naming

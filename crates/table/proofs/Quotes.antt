@@ -39,8 +39,7 @@ other_more bs b h s = record {
 -- a quote that waits closes where another byte comes, or none
 pub closed_before : (body : List ℕ) (i : ℕ) → i ≤ length body → Seen true (take i body) → slice_get (drop i body) 0 ≢ Some 34 → Closed body (i - 1)
 closed_before body i h s other =
-    let front : length (take i body) ≡ length (doubled s.content) + 1 = ap length s.is ∙ length-append (doubled s.content) (34 ∷ []) in
-    (
+    let front : length (take i body) ≡ length (doubled s.content) + 1 = ap length s.is ∙ length-append (doubled s.content) (34 ∷ []) in (
       s.content,
       drop i body,
       sym (take-append-drop i body) ∙ ap (λ l. l ++ drop i body) s.is ∙ append_assoc (doubled s.content) (34 ∷ []) (drop i body),

@@ -92,3 +92,10 @@ BadAt text at LoneReturn = Broken text at LoneReturn
 BadAt text at AfterQuote = Trailed text at
 BadAt text at Unclosed = (at ≡ 0) × (content : List ℕ) × (text ≡ 34 ∷ doubled content)
 BadAt text at (Ragged found expected) = ⊥
+
+-- a text goes on with one field of this content, which is as it is where it is plain
+pub record Wrote (old content new : List ℕ) : Type 0 where
+  pub raw : List ℕ
+  pub whole : new ≡ old ++ raw
+  pub field : IsField raw content
+  pub bare : Plain content → raw ≡ content

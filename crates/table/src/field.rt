@@ -45,7 +45,7 @@ fn behind<'a>(text: &'a [u8]) -> Option<Then<'a>>
 }
 
 // Where the first byte stands that needs quotes, or the end.
-fn plain_end(text: &[u8]) -> usize
+pub(crate) fn plain_end(text: &[u8]) -> usize
     ensures within { result ≤ length text.now }
     ensures plain { Plain (take result text.now) }
     ensures stops { result < length text.now → special (slice_index text.now result) ≡ true }
