@@ -1,0 +1,36 @@
+use crate::asked::Asked;
+use crate::function::Function;
+
+// Rows of a partition by number, from the first to the last that is wanted.
+#[derive(Clone, Copy)]
+pub struct Rows {
+    pub from: usize,
+    pub to: usize,
+}
+
+// What a help text is about.
+#[derive(Clone, Copy)]
+pub enum Topic {
+    Program,
+    Function(Function),
+}
+
+// What the words of a call ask for.
+#[derive(Drop)]
+pub enum Command<'a> {
+    Answer(Asked<'a>),
+    Picture {
+        asked: Asked<'a>,
+        rows: Option<Rows>,
+    },
+    Replay {
+        file: Option<&'a str>,
+    },
+    Report {
+        file: Option<&'a str>,
+    },
+    Explain {
+        number: usize,
+    },
+    Help(Topic),
+}
