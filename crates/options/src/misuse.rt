@@ -1,6 +1,7 @@
 ghost use Rattle.std.specs.Prelude.{◌≡◌};
 ghost use Rattle.options.specs.declared.misuse.Misuse.TheVariants.{Memory as NoMemory};
 
+use crate::frame_text::FrameFault;
 use crate::function::Function;
 use crate::key::Key;
 use std::alloc::AllocError;
@@ -19,7 +20,7 @@ pub enum Misuse<'a> {
     NoNumber { key: Key, text: &'a str },
     UnknownKind(&'a str),
     BadRows(&'a str),
-    BadFrame { text: &'a str, column: usize },
+    BadFrame { text: &'a str, fault: FrameFault },
     TooManyWords(&'a str),
     UnknownRefusal(&'a str),
 }
