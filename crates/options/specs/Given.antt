@@ -65,7 +65,7 @@ OneFault ws k (misuse.Missing function key) = ⊥
 OneFault ws k (misuse.NoNumber key text) = ⊥
 OneFault ws k (misuse.UnknownKind text) = ⊥
 OneFault ws k (misuse.BadRows text) = ⊥
-OneFault ws k (misuse.BadFrame text fault) = ⊥
+OneFault ws k (misuse.BadFrame text column) = ⊥
 OneFault ws k (misuse.TooManyWords word) = ⊥
 OneFault ws k (misuse.UnknownRefusal text) = ⊥
 

@@ -1,9 +1,6 @@
-pub mod Asking
 pub mod FrameTexts
 pub mod Frames
 pub mod Functions
 pub mod Keys
-pub mod Kinds
 pub mod Words
 pub mod Given
-pub mod Values

@@ -9,6 +9,4 @@ pub mod function;
 mod given;
 pub mod key;
 pub mod misuse;
-pub mod parse;
-mod values;
 mod words;

@@ -1,7 +1,6 @@
 ghost use Rattle.std.specs.Prelude.{◌≡◌};
 ghost use Rattle.options.specs.declared.misuse.Misuse.TheVariants.{Memory as NoMemory};
 
-use crate::frame_text::FrameFault;
 use crate::function::Function;
 use crate::key::Key;
 use std::alloc::AllocError;
@@ -20,7 +19,7 @@ pub enum Misuse<'a> {
     NoNumber { key: Key, text: &'a str },
     UnknownKind(&'a str),
     BadRows(&'a str),
-    BadFrame { text: &'a str, fault: FrameFault },
+    BadFrame { text: &'a str, column: usize },
     TooManyWords(&'a str),
     UnknownRefusal(&'a str),
 }

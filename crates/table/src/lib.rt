@@ -1,6 +1,7 @@
 #![tactic(auto)]
 
 // A CSV file as flat lists of its records and fields, which borrow from its text.
+pub mod columns;
 pub mod content;
 pub mod fault;
 mod field;

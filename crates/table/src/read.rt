@@ -16,7 +16,7 @@ pub struct Table<'a> {
     pub fields: Vec<&'a [u8]>,
 }
 
-fn without_mark(text: &[u8]) -> &[u8]
+pub(crate) fn without_mark(text: &[u8]) -> &[u8]
     ensures { Unmarked text.now result.now }
 {
     match text {
