@@ -38,9 +38,9 @@ pub struct Answered {
 #[derive(Drop)]
 struct Job<'a, 'b> {
     heap: Global,
-    table: &'b Table<'b>,
+    table: &'b Table<'a>,
     names: &'b [&'b [u8]],
-    asked: &'b Asked<'a>,
+    asked: &'a Asked<'a>,
 }
 
 impl<'a, 'b> Job<'a, 'b> {
@@ -51,7 +51,7 @@ impl<'a, 'b> Job<'a, 'b> {
         }
     }
 
-    fn contents(&self, name: &'a str) -> Result<Vec<Content<'b>>, Refusal<'a>> {
+    fn contents(&self, name: &'a str) -> Result<Vec<Content<'a>>, Refusal<'a>> {
         let column = self.find(name)?;
         Ok(contents(self.heap, self.table, column)?)
     }
@@ -329,7 +329,11 @@ fn order_cells(heap: Global, turns: &[Turn]) -> Result<Vec<Option<Instant>>, All
 }
 
 // The table of a text with the answers that are asked of it as its last column.
-pub fn answer<'a>(heap: Global, text: &[u8], asked: &Asked<'a>) -> Result<Answered, Refusal<'a>> {
+pub fn answer<'a>(
+    heap: Global,
+    text: &'a [u8],
+    asked: &'a Asked<'a>,
+) -> Result<Answered, Refusal<'a>> {
     let table = match read(heap, text) {
         Ok(table) => table,
         Err(unread) => return Err(Refusal::Unread(unread)),

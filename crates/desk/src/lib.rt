@@ -6,6 +6,7 @@ mod answers;
 mod by_rows;
 mod cells;
 mod layout;
+pub mod message;
 mod numbers;
 mod order;
 mod parts;
