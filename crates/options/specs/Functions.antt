@@ -79,19 +79,19 @@ is_whole Rank = false
 is_whole DenseRank = false
 is_whole RowNumber = false
 
--- the function takes the option
-abbrev pub takes : Function → Key → Bool
-takes f Of = is_valued f
-takes f Kind = is_valued f
-takes f IgnoreNulls = is_valued f
-takes f Offset = is_shift f
-takes f Default = is_shift f
-takes f N = is_nth f
-takes f Frame = is_framed f
-takes f ByRows = not (is_whole f)
-takes f PartitionBy = true
-takes f OrderBy = true
-takes f As = true
-takes f Quiet = true
-takes f File = true
-takes f Rows = false
+-- the function takes the option, answered or drawn
+abbrev pub takes : Function → Bool → Key → Bool
+takes f drawn Of = is_valued f
+takes f drawn Kind = is_valued f
+takes f drawn IgnoreNulls = is_valued f
+takes f drawn Offset = is_shift f
+takes f drawn Default = is_shift f
+takes f drawn N = is_nth f
+takes f drawn Frame = is_framed f
+takes f drawn ByRows = not (is_whole f)
+takes f drawn PartitionBy = true
+takes f drawn OrderBy = true
+takes f drawn As = true
+takes f drawn Quiet = true
+takes f drawn File = true
+takes f drawn Rows = drawn

@@ -65,8 +65,9 @@ OneFault ws k (misuse.Missing function key) = ⊥
 OneFault ws k (misuse.NoNumber key text) = ⊥
 OneFault ws k (misuse.UnknownKind text) = ⊥
 OneFault ws k (misuse.BadRows text) = ⊥
-OneFault ws k (misuse.BadFrame text column) = ⊥
+OneFault ws k (misuse.BadFrame text fault) = ⊥
 OneFault ws k (misuse.TooManyWords word) = ⊥
+OneFault ws k misuse.NoRefusal = ⊥
 OneFault ws k (misuse.UnknownRefusal text) = ⊥
 
 -- the option is given already

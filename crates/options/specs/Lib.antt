@@ -1,6 +1,11 @@
+pub mod Asking
+pub mod Commands
 pub mod FrameTexts
 pub mod Frames
 pub mod Functions
 pub mod Keys
+pub mod Kinds
 pub mod Words
 pub mod Given
+pub mod Messages
+pub mod Values

@@ -1,6 +1,9 @@
+ghost use Rattle.options.specs.Kinds.{NamesKind};
+
 use crate::frame::RowsFrame;
 use crate::function::Function;
 use evaluator::utils::Argument;
+use std::str::FromStr;
 
 // The kinds of value that the column of `--of` may have.
 #[derive(Clone, Copy)]
@@ -9,6 +12,26 @@ pub enum ValueKind {
     Pseudonym,
     Code,
     Outcome,
+}
+
+// A text that names no kind of value.
+#[derive(Clone, Copy)]
+pub struct UnknownKind;
+
+impl FromStr for ValueKind {
+    type Err = UnknownKind;
+
+    ghost from_str_gives = { NamesKind };
+
+    fn from_str(word: &str) -> Result<ValueKind, UnknownKind> {
+        match word {
+            "instant" => Ok(ValueKind::Instant),
+            "pseudonym" => Ok(ValueKind::Pseudonym),
+            "code" => Ok(ValueKind::Code),
+            "outcome" => Ok(ValueKind::Outcome),
+            _ => Err(UnknownKind),
+        }
+    }
 }
 
 // A function that is asked of a file, with its options; no `as_name` is the function's own name, no `file` standard input.

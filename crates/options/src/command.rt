@@ -8,6 +8,13 @@ pub struct Rows {
     pub to: usize,
 }
 
+// A picture that is asked for, of these rows of a partition where any are named.
+#[derive(Drop)]
+pub struct Drawing<'a> {
+    pub asked: Asked<'a>,
+    pub rows: Option<Rows>,
+}
+
 // What a help text is about.
 #[derive(Clone, Copy)]
 pub enum Topic {
@@ -19,18 +26,9 @@ pub enum Topic {
 #[derive(Drop)]
 pub enum Command<'a> {
     Answer(Asked<'a>),
-    Picture {
-        asked: Asked<'a>,
-        rows: Option<Rows>,
-    },
-    Replay {
-        file: Option<&'a str>,
-    },
-    Report {
-        file: Option<&'a str>,
-    },
-    Explain {
-        number: usize,
-    },
+    Picture(Drawing<'a>),
+    Replay { file: Option<&'a str> },
+    Report { file: Option<&'a str> },
+    Explain { number: usize },
     Help(Topic),
 }

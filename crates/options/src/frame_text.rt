@@ -1,6 +1,7 @@
 // The text of a frame, in SQL's words.
-ghost use Rattle.std.specs.Prelude.{◌≡◌, ◌+◌, ◌<◌, ◌≤◌, ◌⊎◌, MatchOption, MatchResult, vec_len};
+ghost use Rattle.std.specs.Prelude.{◌≡◌, ◌+◌, ◌<◌, ◌≤◌, ◌⊎◌, MatchOption, MatchResult, Some, vec_len};
 ghost use Rattle.options.specs.FrameTexts.{Behind, Between, BoundFault, Count, Counts, IsBound, IsFrame, NotAllowed, NotBetween, NotFrame, NotShort, Short, Allowed, Refused, Stands, side};
+ghost use Rattle.options.specs.Messages.{problem_text};
 ghost use Rattle.options.specs.Words.{Is, column_at, word_at};
 ghost use Rattle.options.specs.declared.frame_text.FrameError.TheVariants.{At, Memory};
 
@@ -28,6 +29,26 @@ pub enum FrameProblem {
 pub struct FrameFault {
     pub column: usize,
     pub problem: FrameProblem,
+}
+
+impl fmt::Display for FrameProblem {
+    ghost output = { λ p. Some (problem_text p) };
+
+    fn fmt<W: fmt::Write>(&self, f: &mut fmt::Formatter<W>) -> fmt::Result {
+        f.write_str(match self {
+            FrameProblem::NoRows => "a frame begins with ROWS",
+            FrameProblem::NoBound => {
+                "a bound has to come here: UNBOUNDED, CURRENT ROW or a number of rows"
+            }
+            FrameProblem::NoSide => "PRECEDING or FOLLOWING has to come here",
+            FrameProblem::NoRow => "ROW has to come here",
+            FrameProblem::NoAnd => "AND has to come here",
+            FrameProblem::WordBehind => "the frame has ended before this word",
+            FrameProblem::StartsLast => "a frame may not start at UNBOUNDED FOLLOWING",
+            FrameProblem::EndsFirst => "a frame may not end at UNBOUNDED PRECEDING",
+            FrameProblem::StartBehindEnd => "the frame starts behind its end",
+        })
+    }
 }
 
 // Why a text gives no frame.

@@ -79,9 +79,9 @@ impl Function {
         )
     }
 
-    // Whether the function takes an option.
-    pub fn takes(self, key: Key) -> bool
-        ensures { result ≡ takes self key }
+    // Whether the function takes an option, answered or drawn.
+    pub fn takes(self, drawn: bool, key: Key) -> bool
+        ensures { result ≡ takes self drawn key }
     {
         match key {
             Key::Of | Key::Kind | Key::IgnoreNulls => self.is_valued(),
@@ -92,7 +92,7 @@ impl Function {
                 Function::FirstValue | Function::LastValue | Function::NthValue
             ),
             Key::ByRows => !matches!(self, Function::PercentRank | Function::CumeDist),
-            Key::Rows => false,
+            Key::Rows => drawn,
             Key::PartitionBy | Key::OrderBy | Key::As | Key::Quiet | Key::File => true,
         }
     }

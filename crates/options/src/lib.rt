@@ -9,4 +9,6 @@ pub mod function;
 mod given;
 pub mod key;
 pub mod misuse;
+pub mod parse;
+mod values;
 mod words;
