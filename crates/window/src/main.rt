@@ -1,13 +1,18 @@
 #![tactic(auto)]
 
-// The desk's program: `window [FILE]` writes the report of FILE, or of standard input.
+// The desk's program: `window FUNCTION [OPTIONS] [FILE]` writes the table of FILE, or of standard input, with the answers as its last column.
+use desk::answer::{Answered, answer};
+use desk::message::message;
+use options::asked::Asked;
+use options::command::Command;
+use options::parse::parse;
 use sessions::report::report;
+use std::io::Write;
 use std::process::ExitCode;
 use std::{env, fs, io};
 
 const INPUT: &str = "-";
 
-// The same stands in `drive`: a crate for this function alone would be longer than it.
 fn text_of(rt: &HostRuntime, file: Option<&str>) -> io::Result<String> {
     match file {
         Some(file) => fs::read_to_string(rt, file),
@@ -15,15 +20,56 @@ fn text_of(rt: &HostRuntime, file: Option<&str>) -> io::Result<String> {
     }
 }
 
-// Each `match` prints what failed beside the name: for a `?` one error would have to own both texts, where a refusal lends from its input.
-fn run(rt: &HostRuntime, file: Option<&str>) -> io::Result<ExitCode> {
-    let name = file.unwrap_or(INPUT);
-    let text = match text_of(rt, file) {
-        Ok(text) => text,
+// The text of a file, or of standard input; what it cannot be read for is told.
+fn read_file(rt: &HostRuntime, file: Option<&str>) -> io::Result<Option<String>> {
+    match text_of(rt, file) {
+        Ok(text) => Ok(Some(text)),
         Err(e) => {
+            let name = file.unwrap_or(INPUT);
             eprintln!(rt; "{name}: {e}")?;
-            return Ok(ExitCode::FAILURE);
+            Ok(None)
         }
+    }
+}
+
+fn write_answers(rt: &HostRuntime, quiet: bool, answered: &Answered) -> io::Result<()> {
+    io::writer(rt).write_all(answered.text.as_slice())?;
+    match answered.told {
+        Some(told) if !quiet => {
+            let held = told.held;
+            let early = told.early;
+            eprintln!(rt; "by rows: as the whole partitions; at most {held} rows held, {early} requests too early")
+        }
+        _ => Ok(()),
+    }
+}
+
+// Each `match` prints what failed beside the name: for a `?` one error would have to own both texts, where a refusal lends from its input.
+fn run_answer(rt: &HostRuntime, asked: &Asked<'_>) -> io::Result<ExitCode> {
+    let file = asked.file.filter(|file| *file != INPUT);
+    let Some(text) = read_file(rt, file)? else {
+        return Ok(ExitCode::FAILURE);
+    };
+    let heap = rt.alloc();
+    let bytes = text.as_str().as_bytes();
+    match answer(heap, bytes, asked) {
+        Ok(answered) => {
+            write_answers(rt, asked.quiet, &answered)?;
+            Ok(ExitCode::SUCCESS)
+        }
+        Err(refusal) => {
+            let told = message(heap, file.unwrap_or(INPUT), bytes, &refusal)?;
+            eprintln!(rt; "{told}")?;
+            Ok(ExitCode::FAILURE)
+        }
+    }
+}
+
+// The sessions' report.
+fn run_report(rt: &HostRuntime, file: Option<&str>) -> io::Result<ExitCode> {
+    let file = file.filter(|file| *file != INPUT);
+    let Some(text) = read_file(rt, file)? else {
+        return Ok(ExitCode::FAILURE);
     };
     match report(rt.alloc(), text.as_str()) {
         Ok(written) => {
@@ -31,18 +77,30 @@ fn run(rt: &HostRuntime, file: Option<&str>) -> io::Result<ExitCode> {
             Ok(ExitCode::SUCCESS)
         }
         Err(refusal) => {
+            let name = file.unwrap_or(INPUT);
             eprintln!(rt; "{name}:{refusal}")?;
             Ok(ExitCode::FAILURE)
         }
     }
 }
 
-fn main(rt: HostRuntime) -> io::Result<ExitCode> {
-    let mut args = env::args(&rt)?.skip(1);
-    let first = args.next();
-    if args.next().is_some() {
-        eprintln!(rt; "usage: window [FILE]")?;
-        return Ok(ExitCode::FAILURE);
+fn run(rt: &HostRuntime, words: &[&str]) -> io::Result<ExitCode> {
+    match parse(rt.alloc(), words) {
+        Ok(Command::Answer(asked)) => run_answer(rt, &asked),
+        Ok(Command::Report { file }) => run_report(rt, file),
+        Ok(_) => Ok(ExitCode::FAILURE),
+        Err(misuse) => {
+            eprintln!(rt; "window: {misuse}")?;
+            Ok(ExitCode::FAILURE)
+        }
     }
-    run(&rt, first.as_deref().filter(|file| *file != INPUT))
+}
+
+fn main(rt: HostRuntime) -> io::Result<ExitCode> {
+    let args = env::args(&rt)?.skip(1).collect::<Vec<String>>(rt.alloc())?;
+    let words = args
+        .iter()
+        .map(|word| word.as_str())
+        .collect::<Vec<&str>>(rt.alloc())?;
+    run(&rt, words.as_slice())
 }

@@ -1,0 +1,6 @@
+pub mod Fields
+pub mod Rows
+pub mod Tables
+pub mod Contents
+pub mod Names
+pub mod Messages
