@@ -1,10 +1,13 @@
 -- The text of the picture. Assumes nothing.
-use Rattle.std.specs.Prelude.{ℕ, ◌+◌, ◌-◌, ◌*◌, ◌<◌, List, [], ◌∷◌, ◌++◌, codes, decimal, min, nat_lt, nat_le, ◌&&◌, Option, Some, None, if◌then◌else◌}
+use Rattle.std.specs.Prelude.{ℕ, ◌+◌, ◌-◌, ◌*◌, ◌<◌, List, [], ◌∷◌, ◌++◌, length, codes, decimal, min, nat_lt, nat_le, ◌&&◌, Option, Some, None, if◌then◌else◌}
 use Rattle.std.specs.Borrow.{Bor}
 use Rattle.picture.specs.declared.row.Held.{Held}
 use Rattle.picture.specs.declared.row.Row.{Row}
 use Rattle.picture.specs.declared.row.Source.{Source}
 use Rattle.picture.specs.declared.row.Source.TheVariants as source
+use Rattle.picture.specs.declared.row.Undrawn.{Undrawn}
+use Rattle.picture.specs.declared.row.Undrawn.TheVariants as undrawn
+use Rattle.picture.specs.declared.draw.TheConstants.{STYLE}
 use Rattle.picture.specs.Escape.{shown}
 
 -- the height of the upper edge of a row's box, and of its middle
@@ -73,3 +76,21 @@ held_text i (Some h) = if nat_lt h.start h.end && nat_le h.end 10000 then bar_te
 -- all that is drawn of row i
 abbrev pub row_text : ℕ → Row → List ℕ
 row_text i r = label_text i (shown r.label.now) ++ (box_text i r.value ++ (answer_text i r.source ++ held_text i r.held))
+
+-- what stands above n rows: the title, the style and the heads of the columns
+abbrev pub head_text : ℕ → List ℕ → List ℕ
+head_text n title = codes "<svg xmlns=\"http://www.w3.org/2000/svg\" width=\"" ++ (decimal (660 + 8 * n) ++ (codes "\" height=\"" ++ (decimal (top n + 12) ++ (codes "\">\n<text class=\"title\" x=\"12\" y=\"22\">" ++ (title ++ (codes "</text>\n" ++ STYLE.now))))))
+
+-- each row, from the i-th on
+abbrev pub rows_text : ℕ → List Row → List ℕ
+rows_text i [] = []
+rows_text i (r ∷ rs) = row_text i r ++ rows_text (i + 1) rs
+
+-- the picture of rows
+abbrev pub picture_text : List ℕ → List Row → List ℕ
+picture_text title rows = head_text (length rows) (shown title) ++ (rows_text 0 rows ++ codes "</svg>\n")
+
+-- more rows than are drawn, or no memory
+abbrev pub IsUndrawn : List Row → Undrawn → Type 0
+IsUndrawn rows undrawn.Memory = Unit {0}
+IsUndrawn rows undrawn.TooMany = 10000 < length rows

@@ -1,7 +1,7 @@
 // The picture: a line for each row, from top to bottom, and a curve from its answer to the row that it comes from.
-ghost use Rattle.std.specs.Prelude.{◌≡◌, ◌+◌, ◌*◌, ◌<◌, ◌≤◌, ◌++◌, OnOk, string_bytes, length};
+ghost use Rattle.std.specs.Prelude.{◌≡◌, ◌+◌, ◌*◌, ◌<◌, ◌≤◌, ◌++◌, MatchResult, OnOk, string_bytes, length};
 ghost use Rattle.picture.specs.Escape.{shown};
-ghost use Rattle.picture.specs.Picture.{answer_text, bend, between, box_text, curve_text, default_text, held_text, label_text, line, middle, null_text, path_text, row_text, top, value_text};
+ghost use Rattle.picture.specs.Picture.{IsUndrawn, answer_text, bend, between, box_text, curve_text, default_text, head_text, held_text, label_text, line, middle, null_text, path_text, picture_text, row_text, rows_text, top, value_text};
 
 use crate::escape::shown;
 use crate::row::{Held, Row, Source, Undrawn};
@@ -189,4 +189,47 @@ fn write_row(heap: Global, text: &mut String, i: usize, row: &Row<'_>) -> Result
     write_answer(text, i, row.source)?;
     write_held(text, i, row.held)?;
     Ok(())
+}
+
+// The style, the tip of a curve, and the heads of the columns.
+const STYLE: &str =
+    "<style>text{font:12px sans-serif}text.title{font-size:15px}text.head{fill:#555}rect.value{fill:#e9f0f8;stroke:#456}rect.null{fill:none;stroke:#888;stroke-dasharray:4 3}path.answer{fill:none;stroke:#a31;marker-end:url(#tip)}text.default{fill:#a31}rect.held{fill:#8b8}</style>\n<defs><marker id=\"tip\" markerWidth=\"7\" markerHeight=\"7\" refX=\"6\" refY=\"3\" orient=\"auto\"><path d=\"M0 0L6 3L0 6z\" fill=\"#a31\"/></marker></defs>\n<rect width=\"100%\" height=\"100%\" fill=\"white\"/>\n<text class=\"head\" x=\"12\" y=\"46\">row</text>\n<text class=\"head\" x=\"180\" y=\"46\">value</text>\n<text class=\"head\" x=\"376\" y=\"46\">answered from</text>\n<text class=\"head\" x=\"540\" y=\"46\">held, row by row</text>\n";
+
+// What stands above the rows, n of them.
+fn write_head(text: &mut String, n: usize, title: &str) -> Result<(), AllocError>
+    requires { n ≤ 10000 }
+    ensures { OnOk result (string_bytes text.new ≡ string_bytes text.old ++ head_text n title.now) }
+{
+    let width = 660 + 8 * n;
+    let height = top(n) + 12;
+    write!(
+        text,
+        "<svg xmlns=\"http://www.w3.org/2000/svg\" width=\"{width}\" height=\"{height}\">\n<text class=\"title\" x=\"12\" y=\"22\">{title}</text>\n{STYLE}"
+    )?;
+    Ok(())
+}
+
+fn write_rows(heap: Global, text: &mut String, rows: &[Row<'_>]) -> Result<(), AllocError>
+    requires { length rows.now ≤ 10000 }
+    ensures { OnOk result (string_bytes text.new ≡ string_bytes text.old ++ rows_text 0 rows.now) }
+{
+    for (i, row) in rows.iter().enumerate() {
+        write_row(heap, text, i, row)?;
+    }
+    Ok(())
+}
+
+// The picture of the rows of a partition.
+pub fn draw(heap: Global, title: &str, rows: &[Row<'_>]) -> Result<String, Undrawn>
+    ensures { MatchResult result (λ s. string_bytes s ≡ picture_text title.now rows.now) (IsUndrawn rows.now) }
+{
+    if rows.len() > MOST {
+        return Err(Undrawn::TooMany);
+    }
+    let title = shown(heap, title)?;
+    let mut text = String::new(heap);
+    write_head(&mut text, rows.len(), title.as_str())?;
+    write_rows(heap, &mut text, rows)?;
+    text.push_str("</svg>\n")?;
+    Ok(text)
 }

@@ -1,3 +1,6 @@
+ghost use Rattle.std.specs.Prelude.{◌≡◌};
+ghost use Rattle.picture.specs.declared.row.Undrawn.TheVariants.{Memory as NoMemory};
+
 use std::alloc::AllocError;
 
 // Where the answer of a row comes from.
@@ -32,6 +35,8 @@ pub enum Undrawn {
 }
 
 impl<E: Into<AllocError>> From<E> for Undrawn {
+    ghost from_gives = { λ _ r. r ≡ NoMemory };
+
     fn from(e: E) -> Undrawn {
         let AllocError = e.into();
         Undrawn::Memory
