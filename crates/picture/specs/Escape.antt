@@ -8,9 +8,9 @@ abbrev pub escaped : ℕ → List ℕ
 escaped c = if nat_eq c 60 then codes "&lt;" else (if nat_eq c 62 then codes "&gt;" else (if nat_eq c 38 then codes "&amp;" else (if nat_eq c 34 then codes "&quot;" else encode_utf8 c)))
 
 -- an ellipsis, where a text has more characters than are shown
-abbrev pub ellipsis : ℕ → List ℕ
-ellipsis count = if nat_lt 24 count then encode_utf8 8230 else []
+abbrev pub ellipsis : ℕ → ℕ → List ℕ
+ellipsis width count = if nat_lt width count then encode_utf8 8230 else []
 
 -- what is shown of a text: its first characters
-abbrev pub shown : List ℕ → List ℕ
-shown bs = flat_map escaped (take 24 (chars bs)) ++ ellipsis (length (chars bs))
+abbrev pub shown : ℕ → List ℕ → List ℕ
+shown width bs = flat_map escaped (take width (chars bs)) ++ ellipsis width (length (chars bs))

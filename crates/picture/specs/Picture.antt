@@ -35,7 +35,7 @@ null_text i = codes "<rect class=\"null\" x=\"180\" y=\"" ++ (decimal (top i) ++
 
 -- a box with the value of row i, or an empty one for NULL
 abbrev pub box_text : ℕ → Option (Bor (List ℕ)) → List ℕ
-box_text i (Some value) = value_text i (shown value.now)
+box_text i (Some value) = value_text i (shown 24 value.now)
 box_text i None = null_text i
 
 -- how far the curve between two rows swings out
@@ -75,7 +75,7 @@ held_text i (Some h) = if nat_lt h.start h.end && nat_le h.end 10000 then bar_te
 
 -- all that is drawn of row i
 abbrev pub row_text : ℕ → Row → List ℕ
-row_text i r = label_text i (shown r.label.now) ++ (box_text i r.value ++ (answer_text i r.source ++ held_text i r.held))
+row_text i r = label_text i (shown 24 r.label.now) ++ (box_text i r.value ++ (answer_text i r.source ++ held_text i r.held))
 
 -- what stands above n rows: the title, the style and the heads of the columns
 abbrev pub head_text : ℕ → List ℕ → List ℕ
@@ -88,7 +88,7 @@ rows_text i (r ∷ rs) = row_text i r ++ rows_text (i + 1) rs
 
 -- the picture of rows
 abbrev pub picture_text : List ℕ → List Row → List ℕ
-picture_text title rows = head_text (length rows) (shown title) ++ (rows_text 0 rows ++ codes "</svg>\n")
+picture_text title rows = head_text (length rows) (shown 80 title) ++ (rows_text 0 rows ++ codes "</svg>\n")
 
 -- more rows than are drawn, or no memory
 abbrev pub IsUndrawn : List Row → Undrawn → Type 0

@@ -10,6 +10,13 @@ use std::alloc::{AllocError, Global};
 // The most rows that are drawn.
 const MOST: usize = 10000;
 
+// How many characters are shown of the title, of a label and of a value.
+const TITLE: usize = 80;
+
+const LABEL: usize = 24;
+
+const VALUE: usize = 24;
+
 // The height of the upper edge of a row's box.
 fn top(i: usize) -> usize
     requires { i ≤ 10000 }
@@ -60,9 +67,9 @@ fn between(i: usize, k: usize) -> usize
 
 fn write_label(heap: Global, text: &mut String, i: usize, label: &str) -> Result<(), AllocError>
     requires { i < 10000 }
-    ensures { OnOk result (string_bytes text.new ≡ string_bytes text.old ++ label_text i (shown label.now)) }
+    ensures { OnOk result (string_bytes text.new ≡ string_bytes text.old ++ label_text i (shown 24 label.now)) }
 {
-    let label = shown(heap, label)?;
+    let label = shown(heap, LABEL, label)?;
     write_line(text, i, label.as_str())
 }
 
@@ -104,7 +111,7 @@ fn write_box(
 {
     match value {
         Some(value) => {
-            let value = shown(heap, value)?;
+            let value = shown(heap, VALUE, value)?;
             write_value(text, i, value.as_str())
         }
         None => write_null(text, i),
@@ -226,7 +233,7 @@ pub fn draw(heap: Global, title: &str, rows: &[Row<'_>]) -> Result<String, Undra
     if rows.len() > MOST {
         return Err(Undrawn::TooMany);
     }
-    let title = shown(heap, title)?;
+    let title = shown(heap, TITLE, title)?;
     let mut text = String::new(heap);
     write_head(&mut text, rows.len(), title.as_str())?;
     write_rows(heap, &mut text, rows)?;

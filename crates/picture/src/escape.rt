@@ -6,9 +6,6 @@ ghost use Rattle.picture.specs.Escape.{ellipsis, escaped, shown};
 
 use std::alloc::{AllocError, Global};
 
-// How many characters of a text are shown.
-const WIDTH: usize = 24;
-
 fn push_escaped(text: &mut String, c: char) -> Result<(), AllocError>
     ensures { OnOk result (string_bytes text.new ≡ string_bytes text.old ++ escaped c) }
 {
@@ -29,10 +26,10 @@ fn chars_of(heap: Global, part: &str) -> Result<Vec<char>, AllocError>
 }
 
 // The characters that fit.
-fn fitting(chars: &[char]) -> &[char]
-    ensures { result.now ≡ take 24 chars.now }
+fn fitting(chars: &[char], width: usize) -> &[char]
+    ensures { result.now ≡ take width chars.now }
 {
-    &chars[..chars.len().min(WIDTH)]
+    &chars[..chars.len().min(width)]
 }
 
 fn push_all(text: &mut String, chars: &[char]) -> Result<(), AllocError>
@@ -45,22 +42,22 @@ fn push_all(text: &mut String, chars: &[char]) -> Result<(), AllocError>
 }
 
 // The ellipsis, where a text of so many characters is cut.
-fn push_ellipsis(text: &mut String, count: usize) -> Result<(), AllocError>
-    ensures { OnOk result (string_bytes text.new ≡ string_bytes text.old ++ ellipsis count) }
+fn push_ellipsis(text: &mut String, width: usize, count: usize) -> Result<(), AllocError>
+    ensures { OnOk result (string_bytes text.new ≡ string_bytes text.old ++ ellipsis width count) }
 {
-    if count > WIDTH {
+    if count > width {
         text.push('…')?;
     }
     Ok(())
 }
 
 // A text as it is shown, with an ellipsis for what does not fit.
-pub(crate) fn shown(heap: Global, part: &str) -> Result<String, AllocError>
-    ensures { IfOk result (λ s. string_bytes s ≡ shown part.now) }
+pub(crate) fn shown(heap: Global, width: usize, part: &str) -> Result<String, AllocError>
+    ensures { IfOk result (λ s. string_bytes s ≡ shown width part.now) }
 {
     let chars = chars_of(heap, part)?;
     let mut text = String::new(heap);
-    push_all(&mut text, fitting(chars.as_slice()))?;
-    push_ellipsis(&mut text, chars.len())?;
+    push_all(&mut text, fitting(chars.as_slice(), width))?;
+    push_ellipsis(&mut text, width, chars.len())?;
     Ok(text)
 }

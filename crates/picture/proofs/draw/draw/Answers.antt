@@ -7,5 +7,5 @@ use Rattle.picture.proofs.draw.draw.Goals as goal
 pub returns : goal.returns
 returns c =
     let head = head_text (length c.args.rows.now) in
-    three_appended _ _ _ _ (head c.as_str.result.now) (head (shown c.args.title.now)) (rows_text 0 c.args.rows.now) (codes "</svg>\n")
+    three_appended _ _ _ _ (head c.as_str.result.now) (head (shown 80 c.args.title.now)) (rows_text 0 c.args.rows.now) (codes "</svg>\n")
     c.new-text.ensures.bytes c.in_ok-write_head.ensures c.in_ok-write_rows.ensures c.in_ok-push_str.ensures.bytes (ap head (c.as_str.ensures.value ∙ c.in_ok-title.ensures))
