@@ -40,7 +40,7 @@ The options that every function takes: window --help.
 
 The value of COLUMN in the first row of each row's frame.
 
-  --frame TEXT      the frame, in SQL's words for ROWS (all rows up to the current one)
+  --frame TEXT      the frame, in SQL's words for ROWS (from the partition's first row to the last that is equal to the row by --order-by)
   --ignore-nulls    the first row whose COLUMN is not empty
 
 Example: the first expiry of each session.
@@ -55,7 +55,7 @@ The options that every function takes, and frames: window --help.
 
 The value of COLUMN in the last row of each row's frame.
 
-  --frame TEXT      the frame, in SQL's words for ROWS (all rows up to the current one)
+  --frame TEXT      the frame, in SQL's words for ROWS (from the partition's first row to the last that is equal to the row by --order-by)
   --ignore-nulls    the last row whose COLUMN is not empty
 
 Example: the latest expiry among each record and the two before it.
@@ -71,7 +71,7 @@ The options that every function takes, and frames: window --help.
 The value of COLUMN in the N-th row of each row's frame, counted from its start, or from its end where N is negative. Where the frame has too few rows the answer is empty.
 
   --n N             which row: 2 the second, -1 the last
-  --frame TEXT      the frame, in SQL's words for ROWS (all rows up to the current one)
+  --frame TEXT      the frame, in SQL's words for ROWS (from the partition's first row to the last that is equal to the row by --order-by)
   --ignore-nulls    count only rows whose COLUMN is not empty
 
 Example: the second expiry of each session.

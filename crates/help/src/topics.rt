@@ -16,7 +16,7 @@ Functions: lag, lead, first_value, last_value, nth_value, rank, dense_rank, perc
 
 Options of every function:
   --partition-by A,B    rows that are alike in these columns are one partition (all rows)
-  --order-by A,B        the columns by which rows of a partition are ordered
+  --order-by A,B        the columns by which rows of a partition are ordered (as they stand in FILE)
   --as NAME             the name of the new column (the function's)
   --by-rows K           answer row by row, as a node does that is shown K rows at a time
   --quiet               write no summary
