@@ -1,4 +1,4 @@
-ghost use Rattle.std.specs.Prelude.{◌≡◌, ℕ, Bool, List, [], ◌∷◌, ◌++◌, codes, IfOk, MatchResult, slice_index};
+ghost use Rattle.std.specs.Prelude.{◌≡◌, ℕ, Bool, List, [], ◌∷◌, ◌++◌, codes, MatchResult};
 ghost use Rattle.lines.specs.Cursors.{Onward, ahead};
 ghost use Rattle.lines.specs.Fits.{ListFits, SpanFits};
 ghost use Rattle.lines.specs.Texts.{column_text, list_text, span_text};
@@ -54,7 +54,6 @@ pub fn read_spans(
     letter: u8,
 ) -> Result<Vec<(usize, usize)>, Stop>
     ensures back { (spans : List (ℕ × ℕ)) (rest : List ℕ) → ListFits SpanFits spans → ahead cursor.old ≡ (letter ∷ list_text span_text spans) ++ rest → MatchResult result (λ v. (v.items ≡ spans) × (ahead cursor.new ≡ rest)) (λ s. s ≡ Memory) }
-    ensures found { IfOk result (λ _. slice_index cursor.old.text.now cursor.old.at ≡ letter) }
     ensures absent { (rest : List ℕ) → ahead cursor.old ≡ letter ∷ (codes "-" ++ rest) → MatchResult result (λ v. (v.items ≡ []) × (ahead cursor.new ≡ rest)) (λ _. ⊥) }
     ensures onward { Onward cursor.old cursor.new }
 {
