@@ -1,4 +1,5 @@
 pub mod Calls
 pub mod Kept
 pub mod Outcomes
+pub mod Reads
 pub mod Whole

@@ -1,11 +1,16 @@
 -- What a call on a whole partition is handed, and what it tells.
-use Rattle.std.specs.Prelude.{ℕ, min, Bool, List, map, vec_items}
+use Rattle.std.specs.Prelude.{ℕ, min, Bool, List, map, length, vec_items, Ok, Err, Result}
 use Rattle.std.specs.List.{range_with_len}
-use Rattle.partition.specs.Table.{Input, row_count, whole_refusal}
+use Rattle.column.specs.declared.fault.Fault.{Fault}
+use Rattle.column.specs.Cells.{cells}
+use Rattle.column.specs.Refusal.{or_else, column_refusal}
+use Rattle.lines.specs.Texts.{span_text}
+use Rattle.partition.specs.Peers.{peers}
+use Rattle.partition.specs.Table.{Input, row_count, whole_refusal, places_refusal}
 use Rattle.evaluator.specs.Meaning.{Meaning, partition}
 use Rattle.drive.specs.declared.handed.Handed.{Handed}
 use Rattle.drive.specs.declared.handed.Lengths.{Lengths}
-use Rattle.drive.specs.Outcomes.{told_text}
+use Rattle.drive.specs.Outcomes.{refusal_text, told_text}
 
 -- the partition that is handed in
 abbrev pub handed_input : {V : Type 0} → Handed V → Input V
@@ -22,3 +27,13 @@ row_answers m wants_frames x = map (m.answer (partition wants_frames x)) (range_
 -- the text of the call: the check that fails first, or else the answers
 abbrev pub whole_text : {V A : Type 0} → (V → V → Bool) → (A → List ℕ) → Bool → Bool → Meaning V A → Input V → ℕ → List ℕ
 whole_text same answer_text wants_frames wants_groups m x slots = told_text answer_text (whole_refusal same wants_frames wants_groups x slots) (row_answers m wants_frames x)
+
+-- the text of a call of an evaluator that was made, or refused
+abbrev pub made_text : {E V A : Type 0} → (V → V → Bool) → (A → List ℕ) → Bool → Bool → (E → Meaning V A) → Result E Fault → Input V → ℕ → List ℕ
+made_text same answer_text wants_frames wants_groups meaning (Ok e) x slots = whole_text same answer_text wants_frames wants_groups (meaning e) x slots
+made_text same answer_text wants_frames wants_groups meaning (Err f) x slots = refusal_text f
+
+-- the text of a call for the peer groups of a column with these lists: the check that fails first, or else the groups
+abbrev pub groups_text : {V : Type 0} → (V → V → Bool) → List V → List Bool → ℕ → List ℕ
+groups_text same values marks places =
+    told_text span_text (or_else (column_refusal (length values) (length marks)) (places_refusal (length (peers same (cells values marks))) places)) (peers same (cells values marks))

@@ -1,9 +1,13 @@
 // Answers that a call on a whole partition writes into lists of a pattern.
-ghost use Rattle.std.specs.Prelude.{◌≡◌, T, length, take, IfOk, string_bytes};
+ghost use Rattle.std.specs.Prelude.{◌≡◌, ◌≤◌, ℕ, List, T, decimal, length, take, IfOk, string_bytes};
 ghost use Rattle.column.specs.Cells.{column_cells};
+ghost use Rattle.column.specs.Refusal.{row_limit};
+ghost use Rattle.lines.specs.Back.{ReadsBack};
 ghost use Rattle.lines.specs.Cursors.{Onward};
 ghost use Rattle.drive.specs.Kept.{writable, ValuesKept, MarksKept};
+ghost use Rattle.drive.specs.declared.handed.Lengths.{Lengths};
 ghost use Rattle.drive.specs.Outcomes.{answers_text};
+ghost use Rattle.drive.specs.Reads.{OneLength, TwoLengths};
 ghost use Rattle.drive.specs.Whole.{handed_input, slot_count, whole_text};
 ghost use Rattle.lines.specs.Texts.{cell_text};
 
@@ -23,8 +27,12 @@ use std::alloc::{AllocError, Global};
 
 // What an evaluator of this kind of values answers, with the lists that it is written to.
 pub trait Answer<K: Kind>: Show {
+    // Holds of lengths and the text that they are read from.
+    ghost sized: { Lengths → List ℕ → Type 0 };
+
     fn read_lengths(cursor: &mut Cursor<'_>) -> Result<Lengths, Bad>
-        ensures { Onward cursor.old cursor.new };
+        ensures back { (l : Lengths) (text : List ℕ) → sized l text → ReadsBack text l cursor.old result cursor.new }
+        ensures onward { Onward cursor.old cursor.new };
 
     // The outcome of the call, on output lists that hold a pattern.
     fn call<E: Evaluator<Value = K, Answer = Self>>(
@@ -88,6 +96,8 @@ impl<K: Value> Written<'_, K> {
 }
 
 impl<K: Value> Answer<K> for Option<K> {
+    ghost sized = { TwoLengths };
+
     fn read_lengths(cursor: &mut Cursor<'_>) -> Result<Lengths, Bad> {
         let values = read_length(cursor)?;
         cursor.expect(b',')?;
@@ -130,6 +140,8 @@ impl<K: Value> Answer<K> for Option<K> {
 
 // A whole number, with one list.
 impl<K: Value> Answer<K> for u64 {
+    ghost sized = { OneLength };
+
     fn read_lengths(cursor: &mut Cursor<'_>) -> Result<Lengths, Bad> {
         read_one_length(cursor)
     }
@@ -146,6 +158,8 @@ impl<K: Value> Answer<K> for u64 {
 
 // A fraction likewise.
 impl<K: Value> Answer<K> for f64 {
+    ghost sized = { OneLength };
+
     fn read_lengths(cursor: &mut Cursor<'_>) -> Result<Lengths, Bad> {
         read_one_length(cursor)
     }
@@ -161,7 +175,8 @@ impl<K: Value> Answer<K> for f64 {
 }
 
 fn read_one_length(cursor: &mut Cursor<'_>) -> Result<Lengths, Bad>
-    ensures { Onward cursor.old cursor.new }
+    ensures back { (l : Lengths) (text : List ℕ) → OneLength l text → ReadsBack text l cursor.old result cursor.new }
+    ensures onward { Onward cursor.old cursor.new }
 {
     let values = read_length(cursor)?;
     Ok(Lengths {

@@ -1,8 +1,13 @@
 // Working out peer groups.
-ghost use Rattle.std.specs.Prelude.{◌≡◌, IfOk, length, string_bytes};
-ghost use Rattle.lines.specs.Texts.{span_text};
+ghost use Rattle.std.specs.Prelude.{◌≡◌, ◌≤◌, ℕ, Bool, List, ◌++◌, codes, decimal, IfOk, MatchResult, length, string_bytes};
+ghost use Rattle.column.specs.Refusal.{row_limit};
+ghost use Rattle.lines.specs.Cursors.{ahead};
+ghost use Rattle.lines.specs.Fits.{ListFits};
+ghost use Rattle.lines.specs.declared.stop.Stop.TheVariants.{Memory};
+ghost use Rattle.lines.specs.Texts.{column_text, span_text};
 ghost use Rattle.partition.specs.Table.{column_groups, grouping_refusal};
 ghost use Rattle.drive.specs.Outcomes.{told_text};
+ghost use Rattle.drive.specs.Whole.{groups_text};
 
 use crate::handed::read_length;
 use crate::outcome::Refusal;
@@ -37,10 +42,9 @@ fn call<K: Value>(heap: Global, column: &Column<'_, K>, length: usize) -> Result
 }
 
 // The outcome of a call that is read from here on.
-pub(crate) fn answer_groups<K: Value>(
-    heap: Global,
-    cursor: &mut Cursor<'_>,
-) -> Result<String, Stop> {
+pub(crate) fn answer_groups<K: Value>(heap: Global, cursor: &mut Cursor<'_>) -> Result<String, Stop>
+    ensures { (values : List K) (marks : List Bool) (length : ℕ) → ListFits K.Text.fits values → length ≤ row_limit → ahead cursor.old ≡ column_text K.Show.text 32 values marks ++ (codes " O" ++ decimal length) → MatchResult result (λ s. string_bytes s ≡ groups_text K.Kind.same values marks length) (λ stop. stop ≡ Memory) }
+{
     let column = read_column::<K>(heap, cursor, b' ')?;
     cursor.expect(b' ')?;
     cursor.expect(b'O')?;

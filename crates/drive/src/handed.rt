@@ -1,7 +1,11 @@
 // What a call on a whole partition is handed.
-ghost use Rattle.std.specs.Prelude.{◌≡◌};
-ghost use Rattle.lines.specs.Cursors.{Onward};
-ghost use Rattle.partition.specs.Table.{input};
+ghost use Rattle.std.specs.Prelude.{◌≡◌, ◌≤◌, ◌++◌, ℕ, List, decimal, MatchResult};
+ghost use Rattle.column.specs.Refusal.{row_limit};
+ghost use Rattle.lines.specs.Back.{ReadsBack};
+ghost use Rattle.lines.specs.Cursors.{Onward, ahead};
+ghost use Rattle.lines.specs.declared.stop.Stop.TheVariants.{Memory};
+ghost use Rattle.partition.specs.Table.{Input, input};
+ghost use Rattle.drive.specs.Reads.{HandedText};
 ghost use Rattle.drive.specs.Whole.{handed_input};
 
 use column::column::ROW_LIMIT;
@@ -29,7 +33,8 @@ pub struct Lengths {
 
 impl<K: Value> Handed<K> {
     pub(crate) fn read(heap: Global, cursor: &mut Cursor<'_>) -> Result<Handed<K>, Stop>
-        ensures { Onward cursor.old cursor.new }
+        ensures back { (x : Input K) (text rest : List ℕ) → HandedText K.Show.text K.Text.fits x text → ahead cursor.old ≡ text ++ rest → MatchResult result (λ h. (handed_input h ≡ x) × (ahead cursor.new ≡ rest)) (λ s. s ≡ Memory) }
+        ensures onward { Onward cursor.old cursor.new }
     {
         let column = read_column::<K>(heap, cursor, b' ')?;
         cursor.expect(b' ')?;
@@ -57,7 +62,8 @@ impl<K: Value> Handed<K> {
 
 // The length of an output list, at most as many as a partition has rows.
 pub(crate) fn read_length(cursor: &mut Cursor<'_>) -> Result<usize, Bad>
-    ensures { Onward cursor.old cursor.new }
+    ensures back { (n : ℕ) → n ≤ row_limit → ReadsBack (decimal n) n cursor.old result cursor.new }
+    ensures onward { Onward cursor.old cursor.new }
 {
     cursor.number_in(0..=ROW_LIMIT)
 }

@@ -1,6 +1,12 @@
 // A line with its outcome.
-ghost use Rattle.std.specs.Prelude.{◌≡◌, ℕ, List, IfOk, IfErr, string_bytes};
+ghost use Rattle.std.specs.Prelude.{◌≡◌, ℕ, List, ◌++◌, codes, IfOk, IfErr, MatchResult, string_bytes};
+ghost use Rattle.lines.specs.Cursors.{ahead};
+ghost use Rattle.lines.specs.declared.stop.Stop.TheVariants.{Memory};
+ghost use Rattle.partition.specs.Table.{Input};
+ghost use Rattle.drive.specs.declared.handed.Lengths.{Lengths};
 ghost use Rattle.drive.specs.Outcomes.{IsComment, TellsRefusal, line_text, refusal_text};
+ghost use Rattle.drive.specs.Reads.{HandedText};
+ghost use Rattle.drive.specs.Whole.{made_text, slot_count};
 
 use crate::answer::Answer;
 use crate::groups::answer_groups;
@@ -48,7 +54,7 @@ struct Line<'a> {
 impl Line<'_> {
     // The line with its outcome.
     fn answered(&self, outcome: &str) -> Result<String, Stop>
-        ensures { IfOk result (λ s. string_bytes s ≡ line_text self.now.text.now outcome.now) }
+        ensures { MatchResult result (λ s. string_bytes s ≡ line_text self.now.text.now outcome.now) (λ stop. stop ≡ Memory) }
     {
         let text = self.text;
         Ok(format!(in self.heap; "{text} = {outcome}")?)
@@ -85,7 +91,8 @@ fn whole_line<E: Evaluator + Drop>(
 where
     E::Value: Value,
     E::Answer: Answer<E::Value>,
-    ensures { IfOk result (λ s. (outcome : List ℕ) × (string_bytes s ≡ line_text line.now.text.now outcome) × TellsRefusal made outcome) }
+    ensures refused { IfOk result (λ s. (outcome : List ℕ) × (string_bytes s ≡ line_text line.now.text.now outcome) × TellsRefusal made outcome) }
+    ensures back { (x : Input E.Value) (l : Lengths) (text lengths : List ℕ) → HandedText E.Value.Show.text E.Value.Text.fits x text → E.Answer.Answer.sized l lengths → ahead cursor.old ≡ text ++ (codes " O" ++ lengths) → MatchResult result (λ s. string_bytes s ≡ line_text line.now.text.now (made_text E.Value.Kind.same E.Answer.Show.text E.Evaluator.WANTS_FRAMES E.Evaluator.WANTS_GROUPS E.Evaluator.meaning made x (slot_count l))) (λ stop. stop ≡ Memory) }
 {
     let outcome = answer_whole(line.heap, cursor, made)?;
     line.answered(outcome.as_str())
