@@ -1,7 +1,12 @@
 // What evaluators answer, written as fields.
-use crate::refusal::Refusal;
+ghost use Rattle.std.specs.Prelude.{◌≡◌, IfOk, IfErr, vec_len};
+ghost use Rattle.fields.specs.Answers.{Stops, row_answers};
+ghost use Rattle.fields.specs.declared.answers.Stop.TheVariants.{Memory};
+ghost use Rattle.partition.specs.Table.{input, row_count, whole_refusal};
+
 use crate::values::FieldValue;
 use column::column::Column;
+use column::fault::Fault;
 use column::kind::Kind;
 use evaluator::cells::evaluate_cells;
 use evaluator::evaluator::Evaluator;
@@ -10,14 +15,32 @@ use partition::whole::WholePartition;
 use std::alloc::{AllocError, Global};
 use std::num::f64_to_bits_with_nan;
 
+// Why there are no answers: no memory, or a check of the library that refuses the call.
+#[derive(Clone, Copy)]
+pub enum Stop {
+    Memory,
+    Refused(Fault),
+}
+
+impl<E: Into<AllocError>> From<E> for Stop {
+    ghost from_gives = { λ _ r. r ≡ Memory };
+
+    fn from(e: E) -> Stop {
+        let AllocError = e.into();
+        Stop::Memory
+    }
+}
+
 // The answers of an evaluator of this kind of values.
 pub trait Answer<K: Kind>: Copy {
     // Of each row of a partition.
-    fn whole<'a, E: Evaluator<Value = K, Answer = Self>>(
+    fn whole<E: Evaluator<Value = K, Answer = Self>>(
         heap: Global,
         evaluator: &E,
         rows: &WholePartition<'_, K>,
-    ) -> Result<Vec<Self>, Refusal<'a>>;
+    ) -> Result<Vec<Self>, Stop>
+        ensures answers { IfOk result (λ v. v.items ≡ row_answers (E.Evaluator.meaning evaluator.now) E.Evaluator.WANTS_FRAMES (input rows.now)) }
+        ensures refused { IfErr result (Stops (whole_refusal K.Kind.same E.Evaluator.WANTS_FRAMES E.Evaluator.WANTS_GROUPS (input rows.now) (row_count (input rows.now)))) };
 
     fn is_same(&self, other: &Self) -> bool;
 
@@ -25,14 +48,21 @@ pub trait Answer<K: Kind>: Copy {
     fn write(&self, text: &mut String) -> Result<(), AllocError>;
 }
 
+// So many values.
+fn fillers<K: FieldValue>(heap: Global, count: usize) -> Result<Vec<K>, AllocError>
+    ensures { IfOk result (λ v. vec_len v ≡ count) }
+{
+    (0..count).map(|_| K::filler()).collect(heap)
+}
+
 impl<K: FieldValue> Answer<K> for Option<K> {
-    fn whole<'a, E: Evaluator<Value = K, Answer = Option<K>>>(
+    fn whole<E: Evaluator<Value = K, Answer = Option<K>>>(
         heap: Global,
         evaluator: &E,
         rows: &WholePartition<'_, K>,
-    ) -> Result<Vec<Option<K>>, Refusal<'a>> {
+    ) -> Result<Vec<Option<K>>, Stop> {
         let count = rows.column.values.len();
-        let mut values = (0..count).map(|_| K::filler()).collect::<Vec<K>>(heap)?;
+        let mut values = fillers::<K>(heap, count)?;
         let mut marks = vec![in heap; false; count]?;
         match evaluate_cells(evaluator, rows, values.as_mut_slice(), marks.as_mut_slice()) {
             Ok(()) => {
@@ -42,7 +72,7 @@ impl<K: FieldValue> Answer<K> for Option<K> {
                 };
                 Ok(answers.to_cells(heap)?)
             }
-            Err(fault) => Err(Refusal::Call(fault)),
+            Err(fault) => Err(Stop::Refused(fault)),
         }
     }
 
@@ -60,15 +90,15 @@ impl<K: FieldValue> Answer<K> for Option<K> {
 
 // A whole number.
 impl<K: Kind> Answer<K> for u64 {
-    fn whole<'a, E: Evaluator<Value = K, Answer = u64>>(
+    fn whole<E: Evaluator<Value = K, Answer = u64>>(
         heap: Global,
         evaluator: &E,
         rows: &WholePartition<'_, K>,
-    ) -> Result<Vec<u64>, Refusal<'a>> {
+    ) -> Result<Vec<u64>, Stop> {
         let mut answers = vec![in heap; 0u64; rows.column.values.len()]?;
         match evaluate_numbers(evaluator, rows, answers.as_mut_slice()) {
             Ok(()) => Ok(answers),
-            Err(fault) => Err(Refusal::Call(fault)),
+            Err(fault) => Err(Stop::Refused(fault)),
         }
     }
 
@@ -84,15 +114,15 @@ impl<K: Kind> Answer<K> for u64 {
 
 // A fraction, as the shortest decimal that is read back as it.
 impl<K: Kind> Answer<K> for f64 {
-    fn whole<'a, E: Evaluator<Value = K, Answer = f64>>(
+    fn whole<E: Evaluator<Value = K, Answer = f64>>(
         heap: Global,
         evaluator: &E,
         rows: &WholePartition<'_, K>,
-    ) -> Result<Vec<f64>, Refusal<'a>> {
+    ) -> Result<Vec<f64>, Stop> {
         let mut answers = vec![in heap; 0.0f64; rows.column.values.len()]?;
         match evaluate_numbers(evaluator, rows, answers.as_mut_slice()) {
             Ok(()) => Ok(answers),
-            Err(fault) => Err(Refusal::Call(fault)),
+            Err(fault) => Err(Stop::Refused(fault)),
         }
     }
 

@@ -3,14 +3,14 @@ use std::alloc::{AllocError, Global};
 
 // Where a row comes: the number of its partition, the number of its order, and its own.
 #[derive(Clone, Copy, PartialEq, Eq, PartialOrd, Ord)]
-pub(crate) struct Turn {
+pub struct Turn {
     pub partition: usize,
     pub order: usize,
     pub row: usize,
 }
 
 // All rows in turn.
-pub(crate) fn turns(
+pub fn turns(
     heap: Global,
     partitions: &[usize],
     orders: &[usize],
