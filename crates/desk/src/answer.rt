@@ -187,14 +187,14 @@ impl<'a, 'b> Job<'a, 'b> {
         write_field(&mut text, name_of(self.asked).as_bytes())?;
         text.push(b'\n')?;
         let places = places(heap, turns)?;
-        let mut content = String::new(heap);
+        let mut content = Vec::new(heap);
         for (record, place) in records.zip(&places) {
             text.extend_from_slice(*record)?;
             text.push(b',')?;
             if let Some(answer) = answers.get(*place) {
                 content.clear();
-                answer.write(&mut content)?;
-                write_field(&mut text, content.as_str().as_bytes())?;
+                answer.write(heap, &mut content)?;
+                write_field(&mut text, content.as_slice())?;
             }
             text.push(b'\n')?;
         }

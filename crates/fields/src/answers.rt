@@ -45,7 +45,7 @@ pub trait Answer<K: Kind>: Copy {
     fn is_same(&self, other: &Self) -> bool;
 
     // The content of an answer's field, behind a text; that of NULL is empty.
-    fn write(&self, text: &mut String) -> Result<(), AllocError>;
+    fn write(&self, heap: Global, out: &mut Vec<u8>) -> Result<(), AllocError>;
 }
 
 // So many values.
@@ -80,9 +80,9 @@ impl<K: FieldValue> Answer<K> for Option<K> {
         *self == *other
     }
 
-    fn write(&self, text: &mut String) -> Result<(), AllocError> {
+    fn write(&self, heap: Global, out: &mut Vec<u8>) -> Result<(), AllocError> {
         match self {
-            Some(value) => value.write(text),
+            Some(value) => value.write(heap, out),
             None => Ok(()),
         }
     }
@@ -106,9 +106,9 @@ impl<K: Kind> Answer<K> for u64 {
         *self == *other
     }
 
-    fn write(&self, text: &mut String) -> Result<(), AllocError> {
-        let n = *self;
-        write!(text, "{n}")
+    fn write(&self, heap: Global, out: &mut Vec<u8>) -> Result<(), AllocError> {
+        let text = self.to_string(heap)?;
+        out.extend_from_slice(text.as_str().as_bytes())
     }
 }
 
@@ -130,8 +130,8 @@ impl<K: Kind> Answer<K> for f64 {
         f64_to_bits_with_nan(*self) == f64_to_bits_with_nan(*other)
     }
 
-    fn write(&self, text: &mut String) -> Result<(), AllocError> {
-        let x = *self;
-        write!(text, "{x}")
+    fn write(&self, heap: Global, out: &mut Vec<u8>) -> Result<(), AllocError> {
+        let text = self.to_string(heap)?;
+        out.extend_from_slice(text.as_str().as_bytes())
     }
 }
