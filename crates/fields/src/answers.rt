@@ -1,6 +1,6 @@
 // What evaluators answer, written as fields.
-ghost use Rattle.std.specs.Prelude.{◌≡◌, IfOk, IfErr, vec_len};
-ghost use Rattle.fields.specs.Answers.{Stops, row_answers};
+ghost use Rattle.std.specs.Prelude.{◌≡◌, ℕ, List, IfOk, IfErr, OnOk, decimal, vec_len};
+ghost use Rattle.fields.specs.Answers.{Stops, Wrote, cell_text, row_answers};
 ghost use Rattle.fields.specs.declared.answers.Stop.TheVariants.{Memory};
 ghost use Rattle.partition.specs.Table.{input, row_count, whole_refusal};
 
@@ -33,6 +33,9 @@ impl<E: Into<AllocError>> From<E> for Stop {
 
 // The answers of an evaluator of this kind of values.
 pub trait Answer<K: Kind>: Copy {
+    // Holds of an answer and the content that it is written as.
+    ghost writes: { Self → List ℕ → Type 0 };
+
     // Of each row of a partition.
     fn whole<E: Evaluator<Value = K, Answer = Self>>(
         heap: Global,
@@ -45,7 +48,8 @@ pub trait Answer<K: Kind>: Copy {
     fn is_same(&self, other: &Self) -> bool;
 
     // The content of an answer's field, behind a text; that of NULL is empty.
-    fn write(&self, heap: Global, out: &mut Vec<u8>) -> Result<(), AllocError>;
+    fn write(&self, heap: Global, out: &mut Vec<u8>) -> Result<(), AllocError>
+        ensures { OnOk result (Wrote writes self.now out.old.items out.new.items) };
 }
 
 // So many values.
@@ -56,6 +60,8 @@ fn fillers<K: FieldValue>(heap: Global, count: usize) -> Result<Vec<K>, AllocErr
 }
 
 impl<K: FieldValue> Answer<K> for Option<K> {
+    ghost writes = { λ a t. t ≡ cell_text K.FieldValue.text a };
+
     fn whole<E: Evaluator<Value = K, Answer = Option<K>>>(
         heap: Global,
         evaluator: &E,
@@ -90,6 +96,8 @@ impl<K: FieldValue> Answer<K> for Option<K> {
 
 // A whole number.
 impl<K: Kind> Answer<K> for u64 {
+    ghost writes = { λ a t. t ≡ decimal a };
+
     fn whole<E: Evaluator<Value = K, Answer = u64>>(
         heap: Global,
         evaluator: &E,
@@ -114,6 +122,9 @@ impl<K: Kind> Answer<K> for u64 {
 
 // A fraction, as the shortest decimal that is read back as it.
 impl<K: Kind> Answer<K> for f64 {
+    // of the digits nothing is proved
+    ghost writes = { λ a t. Unit {0} };
+
     fn whole<E: Evaluator<Value = K, Answer = f64>>(
         heap: Global,
         evaluator: &E,
