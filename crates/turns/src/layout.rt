@@ -1,4 +1,8 @@
 // The rows of a table, partition by partition and each in its order.
+ghost use Rattle.std.specs.Prelude.{◌≡◌, List, IfOk, IsPermutation, IsSorted};
+ghost use Rattle.turns.specs.Turns.{FileOrder, turn_cmp};
+ghost use Rattle.turns.specs.declared.layout.Turn.{Turn};
+
 use std::alloc::{AllocError, Global};
 
 // Where a row comes: the number of its partition, the number of its order, and its own.
@@ -9,20 +13,30 @@ pub struct Turn {
     pub row: usize,
 }
 
-// All rows in turn.
-pub fn turns(
+fn in_file_order(
     heap: Global,
     partitions: &[usize],
     orders: &[usize],
-) -> Result<Vec<Turn>, AllocError> {
+) -> Result<Vec<Turn>, AllocError>
+    ensures { IfOk result (λ v. FileOrder partitions.now orders.now v.items) }
+{
     let mut turns = Vec::new(heap);
-    for (row, (partition, order)) in partitions.iter().zip(orders).enumerate() {
+    for row in 0..partitions.len().min(orders.len()) {
         turns.push(Turn {
-            partition: *partition,
-            order: *order,
+            partition: partitions[row],
+            order: orders[row],
             row,
         })?;
     }
+    Ok(turns)
+}
+
+// All rows, by the number of their partition, of their order, and their own.
+pub fn turns(heap: Global, partitions: &[usize], orders: &[usize]) -> Result<Vec<Turn>, AllocError>
+    ensures rows { IfOk result (λ v. (rows : List Turn) × FileOrder partitions.now orders.now rows × IsPermutation rows v.items) }
+    ensures sorted { IfOk result (λ v. IsSorted turn_cmp v.items) }
+{
+    let mut turns = in_file_order(heap, partitions, orders)?;
     turns.sort()?;
     Ok(turns)
 }

@@ -1,11 +1,10 @@
-use Rattle.std.proofs.Common.{rules, arith, length, take, map, min, ◌≡◌, ◌≤◌, ◌∙◌, None, sym, ap}
+use Rattle.std.proofs.Common.{rules, arith, length, ◌≡◌, ◌≤◌, ◌∙◌, sym, ap}
 use Rattle.std.proofs.lemmas.List.{take_at, take_all}
 use Rattle.column.proofs.Cells.{length-cells}
 use Rattle.column.specs.Cells.{cells}
 use Rattle.column.specs.Slots.{CellSlots, cell_count}
 use Rattle.evaluator.specs.Meaning.{partition}
 use Rattle.partition.specs.Table.{input, row_count, whole_refusal}
-use Rattle.fields.specs.Answers.{row_answers}
 use Rattle.fields.proofs.Cells.{filled_cells}
 use Rattle.fields.proofs.Stopped.{stopped}
 use Rattle.fields.proofs.answers.OptionAnswer.whole.Goals as goal

@@ -1,4 +1,4 @@
-use Rattle.std.proofs.Common.{rules, length, ◌≡◌}
+use Rattle.std.proofs.Common.{rules, length}
 use Rattle.partition.specs.Table.{input, row_count, whole_refusal}
 use Rattle.fields.proofs.Stopped.{stopped}
 use Rattle.fields.proofs.answers.U64Answer.whole.Goals as goal
