@@ -1,5 +1,5 @@
 -- What options ask of a function. Assumes nothing.
-use Rattle.std.specs.Prelude.{◌≡◌, ℕ, ◌<◌, ◌⊎◌, Bool, true, false, List, length, IsTrue, MatchOption, Option, vec_items, slice_index_or}
+use Rattle.std.specs.Prelude.{◌≡◌, ℕ, ◌<◌, ◌⊎◌, Bool, true, false, List, length, MatchOption, Option, vec_items, slice_index_or}
 use Rattle.std.specs.Borrow.{Bor}
 use Rattle.options.specs.declared.asked.Asked.{Asked}
 use Rattle.options.specs.declared.asked.ValueKind.{ValueKind}

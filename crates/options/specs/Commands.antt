@@ -1,10 +1,9 @@
 -- The commands that words stand for. Assumes nothing.
-use Rattle.std.specs.Prelude.{◌≡◌, ℕ, ◌+◌, ◌<◌, ◌≤◌, ◌⊎◌, true, false, List, [], ◌∷◌, length, codes, Option, Some, None, slice_index_or}
+use Rattle.std.specs.Prelude.{◌≡◌, ℕ, ◌≤◌, ◌⊎◌, true, false, List, [], ◌∷◌, codes, Option, None}
 use Rattle.std.specs.Borrow.{Bor}
 use Rattle.options.specs.declared.asked.Asked.{Asked}
 use Rattle.options.specs.declared.command.Command.{Command}
 use Rattle.options.specs.declared.command.Command.TheVariants.{Answer, Picture, Replay, Report, Explain, Help}
-use Rattle.options.specs.declared.command.Topic.{Topic}
 use Rattle.options.specs.declared.command.Topic.TheVariants as topic
 use Rattle.options.specs.declared.command.Drawing.{Drawing}
 use Rattle.options.specs.declared.function.Function.{Function}

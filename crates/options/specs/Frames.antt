@@ -1,5 +1,5 @@
 -- Which rows lie in a row's frame. Assumes nothing.
-use Rattle.std.specs.Prelude.{◌≡◌, ℕ, ◌+◌, ◌-◌, ◌<◌, ◌≤◌, ◌↔◌, min, max}
+use Rattle.std.specs.Prelude.{ℕ, ◌+◌, ◌-◌, ◌<◌, ◌≤◌, ◌↔◌, min, max}
 use Rattle.options.specs.declared.frame.Bound.{Bound}
 use Rattle.options.specs.declared.frame.Bound.TheVariants.{UnboundedPreceding, Preceding, CurrentRow, Following, UnboundedFollowing}
 use Rattle.options.specs.declared.frame.RowsFrame.{RowsFrame}

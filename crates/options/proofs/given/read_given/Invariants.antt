@@ -1,4 +1,4 @@
-use Rattle.std.proofs.Common.{ℕ, ◌-◌, ◌≤◌, length, vec_items}
+use Rattle.std.proofs.Common.{◌-◌, ◌≤◌, length, vec_items}
 use Rattle.options.specs.Given.{Once, Run}
 use Rattle.options.proofs.given.read_given.Given as goal
 

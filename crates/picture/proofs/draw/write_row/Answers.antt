@@ -1,0 +1,5 @@
+use Rattle.picture.proofs.Appends.{four_appended}
+use Rattle.picture.proofs.draw.write_row.Goals as goal
+
+pub returns : goal.returns
+returns c = four_appended _ _ _ _ _ _ _ _ _ c.in_ok-write_label.ensures c.in_ok-write_box.ensures c.in_ok-write_answer.ensures c.in_ok-write_held.ensures
