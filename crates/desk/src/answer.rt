@@ -1,15 +1,12 @@
 // The table of a file with the answers as its last column.
-use crate::answers::Answer;
 use crate::by_rows::{Told, answer_by_rows};
 use crate::cells::read_cells;
-use crate::layout::{Turn, turns};
-use crate::numbers::refine;
-use crate::order::refine_order;
 use crate::parts::{Wants, order_of, part_of};
 use crate::refusal::Refusal;
-use crate::values::FieldValue;
 use column::kind::{CollegeCode, Instant, Kind, LoginOutcome, Pseudonym};
 use evaluator::evaluator::Evaluator;
+use fields::answers::{Answer, Stop};
+use fields::values::FieldValue;
 use lead_lag::WindowShift;
 use lead_lag::offset::WindowShiftKind;
 use nth_value::NthValue;
@@ -26,6 +23,9 @@ use table::content::Content;
 use table::names::find_column;
 use table::read::{Table, read};
 use table::write::write_field;
+use turns::layout::{Turn, turns};
+use turns::numbers::refine;
+use turns::order::refine_order;
 
 // The text that is written, and what runs took where rows were asked one by one.
 #[derive(Drop)]
@@ -102,7 +102,11 @@ impl<K: FieldValue> Given<'_, K> {
         let mut answers = Vec::new(self.heap);
         for turns in self.turns.chunk_by(|a, b| a.partition == b.partition) {
             let part = part_of(self.heap, turns, self.cells, self.frame, wants)?;
-            let more = E::Answer::whole(self.heap, evaluator, &part.as_partition())?;
+            let more = match E::Answer::whole(self.heap, evaluator, &part.as_partition()) {
+                Ok(more) => more,
+                Err(Stop::Memory) => return Err(Refusal::Memory),
+                Err(Stop::Refused(fault)) => return Err(Refusal::Call(fault)),
+            };
             for answer in &more {
                 answers.push(*answer)?;
             }
@@ -183,14 +187,14 @@ impl<'a, 'b> Job<'a, 'b> {
         write_field(&mut text, name_of(self.asked).as_bytes())?;
         text.push(b'\n')?;
         let places = places(heap, turns)?;
-        let mut content = String::new(heap);
+        let mut content = Vec::new(heap);
         for (record, place) in records.zip(&places) {
             text.extend_from_slice(*record)?;
             text.push(b',')?;
             if let Some(answer) = answers.get(*place) {
                 content.clear();
-                answer.write(&mut content)?;
-                write_field(&mut text, content.as_str().as_bytes())?;
+                answer.write(heap, &mut content)?;
+                write_field(&mut text, content.as_slice())?;
             }
             text.push(b'\n')?;
         }

@@ -1,8 +1,8 @@
 // The cells of a column, as two lists.
 use crate::refusal::Refusal;
-use crate::values::FieldValue;
 use column::column::Column;
 use column::kind::Kind;
+use fields::values::FieldValue;
 use std::alloc::Global;
 use table::content::Content;
 

@@ -1,14 +1,14 @@
 // What a window function is asked of one partition.
 use crate::cells::CellLists;
-use crate::layout::Turn;
 use crate::refusal::Refusal;
-use crate::values::FieldValue;
 use column::column::Column;
 use column::kind::{Instant, Kind};
+use fields::values::FieldValue;
 use options::frame::{RowsFrame, frame_of};
 use partition::peers::peer_groups;
 use partition::whole::WholePartition;
 use std::alloc::{AllocError, Global};
+use turns::layout::Turn;
 
 // The peer groups of a partition's rows: each its first row, and the row after its last.
 fn groups_of<'a>(

@@ -1,5 +1,5 @@
 -- The text behind an opening quote, as far as it was read.
-use Rattle.std.proofs.Common.{◌≡◌, ◌≢◌, ℕ, suc, ◌+◌, ◌-◌, ◌<◌, ◌≤◌, ◌==◌, Bool, true, false, not, cond, List, [], ◌∷◌, ◌++◌, length, take, drop, get_or, slice_get, slice_range, Some, inr, refl, sym, ap, ◌∙◌, subst, append_assoc, append-nil, arith, length-append, length-take, drop-cons}
+use Rattle.std.proofs.Common.{◌≡◌, ◌≢◌, ℕ, ◌+◌, ◌-◌, ◌<◌, ◌≤◌, ◌==◌, Bool, true, false, not, cond, List, [], ◌∷◌, ◌++◌, length, take, drop, get_or, slice_get, slice_range, Some, inr, refl, sym, ap, ◌∙◌, append_assoc, append-nil, arith, length-append, length-take, drop-cons}
 use Rattle.std.proofs.lemmas.List.{take_more, take-append-drop, take_all, length-drop}
 use Rattle.std.proofs.Math.Seq.{take-append_seam, drop-append_seam}
 use Rattle.std.proofs.lemmas.Bool.Decides.{nat_tests}

@@ -1,5 +1,5 @@
 -- The records of a text, as far as they were read.
-use Rattle.std.proofs.Common.{◌≡◌, ◌≢◌, ℕ, ◌+◌, ◌-◌, ◌<◌, ◌≤◌, ◌⊎◌, List, [], ◌∷◌, ◌++◌, map, length, Bor, refl, sym, ap, ◌∙◌, subst, append_assoc, append-nil, inl, inr, arith, length-append}
+use Rattle.std.proofs.Common.{◌≡◌, ◌≢◌, ℕ, ◌+◌, ◌-◌, ◌<◌, ◌≤◌, List, [], ◌∷◌, ◌++◌, map, length, Bor, refl, sym, ap, ◌∙◌, append-nil, arith, length-append}
 use Rattle.std.proofs.lemmas.List.{map-append}
 use Rattle.std.proofs.lemmas.List.Concat.{flat_map-append}
 use Rattle.std.specs.List.{flat_map}
@@ -8,7 +8,7 @@ use Rattle.table.specs.declared.fault.Fault.TheVariants.{Empty, QuoteInside, Lon
 use Rattle.table.specs.declared.stop.Stop.{Stop}
 use Rattle.table.specs.declared.stop.Stop.TheVariants.{Memory, At}
 use Rattle.table.specs.Fields.{BadAt, quoted}
-use Rattle.table.specs.Rows.{BadRow, IsEnd, Leads, NoRow, begun_text}
+use Rattle.table.specs.Rows.{BadRow, Leads, NoRow, begun_text}
 use Rattle.table.specs.Tables.{Entry, FaultAt, Halted, NotBody, ReadsTo, Uneven}
 
 pub record Sofar (body rest : List ℕ) (width : ℕ) (records fields : List (Bor (List ℕ))) : Type 0 where

@@ -1,12 +1,11 @@
 -- One quote for each two.
-use Rattle.std.proofs.Common.{◌≡◌, ◌≢◌, ℕ, suc, ◌+◌, ◌-◌, ◌<◌, ◌≤◌, ◌==◌, Bool, true, false, not, cond, List, [], ◌∷◌, ◌++◌, length, take, drop, get_or, slice_get, slice_range, slice_index, Some, inl, inr, refl, sym, ap, ◌∙◌, subst, append_assoc, append-nil, add-one, arith, length-append, length-take, drop-cons}
-use Rattle.std.proofs.lemmas.List.{take_all, drop_all, take-append-le, length-drop}
-use Rattle.std.proofs.Math.Seq.{take-append_seam, drop-append_seam, get_or-append_seam}
+use Rattle.std.proofs.Common.{◌≡◌, ℕ, ◌+◌, ◌<◌, ◌==◌, Bool, true, false, not, cond, List, [], ◌∷◌, ◌++◌, length, drop, slice_get, slice_index, Some, inl, inr, refl, sym, ap, ◌∙◌, subst, append-nil, add-one, arith}
+use Rattle.std.proofs.lemmas.List.{drop_all}
 use Rattle.std.proofs.lemmas.Bool.Decides.{nat_tests}
 use Rattle.std.specs.List.{IsAnyAnswer}
 use Rattle.std.specs.Str.Iter.{LacksByte}
 use Rattle.table.specs.Contents.{Says}
-use Rattle.table.specs.Fields.{IsField, Plain, doubled, quoted, special}
+use Rattle.table.specs.Fields.{Plain, doubled, quoted, special}
 
 -- a quote more turns whether one waits
 abbrev pub turned : ℕ → Bool → Bool

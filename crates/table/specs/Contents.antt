@@ -1,6 +1,5 @@
 -- What raw fields say. Assumes nothing.
-use Rattle.std.specs.Prelude.{◌≡◌, ℕ, ◌<◌, List, length, slice_index_or}
-use Rattle.std.specs.Borrow.{Bor}
+use Rattle.std.specs.Prelude.{◌≡◌, ℕ, List}
 use Rattle.std.specs.Vec.{vec_items}
 use Rattle.table.specs.declared.content.Content.{Content}
 use Rattle.table.specs.declared.content.Content.TheVariants.{Plain as Borrowed, Unquoted}

@@ -1,5 +1,5 @@
 -- The column of a name. Assumes nothing.
-use Rattle.std.specs.Prelude.{◌≡◌, ◌≢◌, ℕ, ◌<◌, List, length, slice_index_or}
+use Rattle.std.specs.Prelude.{◌≡◌, ℕ, ◌<◌, List, length, slice_index_or}
 use Rattle.std.specs.Borrow.{Bor}
 use Rattle.table.specs.declared.names.NoColumn.{NoColumn}
 use Rattle.table.specs.declared.names.NoColumn.TheVariants.{Absent, Twice}

@@ -3,6 +3,8 @@
 // The desk's program: `window FUNCTION [OPTIONS] [FILE]` writes the table of FILE, or of standard input, with the answers as its last column.
 use desk::answer::{Answered, answer};
 use desk::message::message;
+use help::refusals::explanation;
+use help::topics::text as help_text;
 use options::asked::Asked;
 use options::command::Command;
 use options::parse::parse;
@@ -38,7 +40,9 @@ fn write_answers(rt: &HostRuntime, quiet: bool, answered: &Answered) -> io::Resu
         Some(told) if !quiet => {
             let held = told.held;
             let early = told.early;
-            eprintln!(rt; "by rows: as the whole partitions; at most {held} rows held, {early} requests too early")
+            eprintln!(rt;
+                "by rows: as the whole partitions; at most {held} rows held, {early} requests too early"
+            )
         }
         _ => Ok(()),
     }
@@ -88,7 +92,21 @@ fn run(rt: &HostRuntime, words: &[&str]) -> io::Result<ExitCode> {
     match parse(rt.alloc(), words) {
         Ok(Command::Answer(asked)) => run_answer(rt, &asked),
         Ok(Command::Report { file }) => run_report(rt, file),
-        Ok(_) => Ok(ExitCode::FAILURE),
+        Ok(Command::Explain { number }) => {
+            let told = explanation(number).unwrap_or("");
+            print!(rt; "{told}")?;
+            Ok(ExitCode::SUCCESS)
+        }
+        Ok(Command::Help(topic)) => {
+            let told = help_text(topic);
+            print!(rt; "{told}")?;
+            Ok(ExitCode::SUCCESS)
+        }
+        // left to crates that are not wired in here
+        Ok(Command::Picture { .. }) | Ok(Command::Replay { .. }) => {
+            eprintln!(rt; "window: pictures and replays are not built in yet")?;
+            Ok(ExitCode::FAILURE)
+        }
         Err(misuse) => {
             eprintln!(rt; "window: {misuse}")?;
             Ok(ExitCode::FAILURE)

@@ -1,4 +1,4 @@
-use Rattle.std.proofs.Common.{◌≡◌, length, ap, arith}
+use Rattle.std.proofs.Common.{◌≡◌, length, arith}
 use Rattle.table.proofs.Undoubled.{undoubled_all}
 use Rattle.table.proofs.content.undouble.Goals as goal
 

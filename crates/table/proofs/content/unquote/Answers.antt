@@ -1,4 +1,3 @@
-use Rattle.std.proofs.Common.{rules}
 use Rattle.table.proofs.Undoubled.{says_between}
 use Rattle.table.proofs.content.unquote.Goals as goal
 

@@ -1,5 +1,5 @@
-use Rattle.std.proofs.Common.{arith, subst, false, true}
-use Rattle.table.proofs.Quotes.{Seen, closed_before, next_other, seen_other, seen_quote}
+use Rattle.std.proofs.Common.{arith}
+use Rattle.table.proofs.Quotes.{closed_before, next_other, seen_other, seen_quote}
 use Rattle.table.proofs.field.closing_quote.Goals as goal
 use Rattle.table.proofs.field.closing_quote.Goals.{then-byte-eq34, else-byte-eq34+else-pending}
 

@@ -1,7 +1,6 @@
-use Rattle.std.proofs.Common.{rules, drop, length, slice_range, sym, ◌≡◌, ◌∙◌, arith, ◌-◌}
-use Rattle.std.proofs.lemmas.List.{take_all, length-drop}
+use Rattle.std.proofs.Common.{rules, length, slice_range}
 use Rattle.table.specs.Fields.{Closed}
-use Rattle.table.proofs.Quotes.{Quoted, quoted_text, quoted_cut, quoted_trailed}
+use Rattle.table.proofs.Quotes.{quoted_cut, quoted_trailed}
 use Rattle.table.proofs.field.cut_quoted.Goals as goal
 
 pub returns-in-Some : goal.returns-in-Some

@@ -1,4 +1,4 @@
-use Rattle.std.proofs.Common.{rules, arith, ◌<◌, ◌≡◌, ◌-◌, ◌∙◌, length, refl, ap}
+use Rattle.std.proofs.Common.{rules, arith, ◌<◌, ◌≡◌, ◌-◌, ◌∙◌, length}
 use Rattle.table.proofs.Sofar.{sofar_first, sofar_more, uneven, halted_first, reads_shorter}
 use Rattle.table.proofs.read.read_rows.Goals as goal
 

@@ -1,4 +1,4 @@
-use Rattle.std.proofs.Common.{rules, refl}
+use Rattle.std.proofs.Common.{refl}
 use Rattle.table.proofs.Begun.{comma_more, line_ends, text_ends}
 use Rattle.table.proofs.row.cut_row.Goals as goal
 

@@ -4,7 +4,7 @@ use std::collections::BTreeMap;
 use table::content::Content;
 
 // The number of each row: the same where the number and the content were.
-pub(crate) fn refine(
+pub fn refine(
     heap: Global,
     numbers: &[usize],
     contents: &[Content<'_>],

@@ -1,6 +1,6 @@
 // Rows numbered by their order: a row that comes before another has a lower number, and peers have one.
-use crate::values::FieldValue;
 use column::kind::Instant;
+use fields::values::FieldValue;
 use std::alloc::{AllocError, Global};
 use table::content::Content;
 
@@ -44,7 +44,7 @@ fn instants(
 }
 
 // Orders rows of one number by a column more: by value if all are whole numbers, else by bytes; NULL last.
-pub(crate) fn refine_order(
+pub fn refine_order(
     heap: Global,
     numbers: &[usize],
     contents: &[Content<'_>],

@@ -1,5 +1,5 @@
 // Small tables and their answers.
-use crate::answer::answer;
+use desk::answer::answer;
 use evaluator::utils::Argument;
 use options::asked::{Asked, ValueKind};
 use options::frame::{Bound, RowsFrame};
