@@ -7,6 +7,7 @@ use options::function::Function;
 use options::parse::parse;
 use picture::draw::draw;
 use picture::row::{Held, Row, Source};
+use replayed::script::replayed;
 use std::alloc::{AllocError, Global};
 use std::process::Abort;
 use std::test::Fail;
@@ -213,5 +214,20 @@ fn pictures(rt: HostRuntime) -> Result<(), Fail> {
     assert!(&rt;
         text.contains("<rect class=\"held\" x=\"548\" y=\"56\" width=\"6\" height=\"42\"/>")
     );
+    Ok(())
+}
+
+#[test]
+fn replays(rt: HostRuntime) -> Result<(), Fail> {
+    let heap = rt.alloc();
+    let text =
+        "# what a node asked\ni lag:missing:0:1:_\nV[910,0,0,1010] M[1,0,0,1]\nrequest 0 1\nrequest 0 2\nmark\nrequest 2 3\nsettle\nrequest 0 4\nrequest 0 4\nmark\nclose 4\nfinish\n";
+    let want =
+        "request 0 1: answer _\nrequest 0 2: answer 910\nmark: keep from row 0\nrequest 2 3: refused by 14 at 0\n  14: the node let go of a row that is still needed.\nsettle: refused by 18 at 2\n  18: this run cannot settle.\nrequest 0 4: answer 910\nrequest 0 4: answer 910\nmark: keep from row 3\nclose 4: done\nfinish: 4 rows answered\n";
+    let told = replayed(heap, text).or_else(|wrong| wrong.to_string(heap))?;
+    assert_eq!(&rt; told.as_str(), want);
+    let bad = "i rank\nV[1] M[1]\nrequest 0 2\n";
+    let told = replayed(heap, bad).or_else(|wrong| wrong.to_string(heap))?;
+    assert_eq!(&rt; told.as_str(), "3:11: this cannot be read");
     Ok(())
 }
