@@ -36,14 +36,14 @@ pub struct Answered {
 
 // A file that was read, with the names of its columns and what is asked of it.
 #[derive(Drop)]
-struct Job<'a, 'b> {
+struct Job<'a, 'c, 't, 'b> {
     heap: Global,
-    table: &'b Table<'a>,
+    table: &'b Table<'t>,
     names: &'b [&'b [u8]],
-    asked: &'a Asked<'a>,
+    asked: &'c Asked<'a>,
 }
 
-impl<'a, 'b> Job<'a, 'b> {
+impl<'a, 'c, 't, 'b> Job<'a, 'c, 't, 'b> {
     fn find(&self, name: &'a str) -> Result<usize, Refusal<'a>> {
         match find_column(self.names, name.as_bytes()) {
             Ok(column) => Ok(column),
@@ -51,7 +51,7 @@ impl<'a, 'b> Job<'a, 'b> {
         }
     }
 
-    fn contents(&self, name: &'a str) -> Result<Vec<Content<'a>>, Refusal<'a>> {
+    fn contents(&self, name: &'a str) -> Result<Vec<Content<'t>>, Refusal<'a>> {
         let column = self.find(name)?;
         Ok(contents(self.heap, self.table, column)?)
     }
@@ -170,7 +170,7 @@ fn name_of<'c>(asked: &'c Asked<'_>) -> &'c str {
     asked.as_name.unwrap_or(asked.function.name())
 }
 
-impl<'a, 'b> Job<'a, 'b> {
+impl<'a, 'c, 't, 'b> Job<'a, 'c, 't, 'b> {
     // Each record as it stands in the file, with its answer.
     fn write<K: Kind, A: Answer<K>>(
         &self,
@@ -333,10 +333,10 @@ fn order_cells(heap: Global, turns: &[Turn]) -> Result<Vec<Option<Instant>>, All
 }
 
 // The table of a text with the answers that are asked of it as its last column.
-pub fn answer<'a>(
+pub fn answer<'a, 'c, 't>(
     heap: Global,
-    text: &'a [u8],
-    asked: &'a Asked<'a>,
+    text: &'t [u8],
+    asked: &'c Asked<'a>,
 ) -> Result<Answered, Refusal<'a>> {
     let table = match read(heap, text) {
         Ok(table) => table,

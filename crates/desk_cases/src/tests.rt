@@ -1,5 +1,6 @@
 // Small tables and their answers.
 use desk::answer::answer;
+use desk::message::message;
 use evaluator::utils::Argument;
 use options::asked::{Asked, ValueKind};
 use options::frame::{Bound, RowsFrame};
@@ -85,5 +86,74 @@ fn each_function(rt: HostRuntime) -> Result<(), Fail> {
         Function::CumeDist,
         None,
         "x|1|1|0.3333333333333333|1|0.6666666666666666|",
+    )
+}
+
+// The message that refuses a text of file f.
+fn refusal_of(heap: Global, text: &str) -> Result<String, AllocError> {
+    let asked = asked(heap, Function::Lag, None)?;
+    match answer(heap, text.as_bytes(), &asked) {
+        Ok(_) => String::from_str(heap, "answered"),
+        Err(refusal) => message(heap, "f", text.as_bytes(), &refusal),
+    }
+}
+
+fn refuses(rt: &impl Abort, heap: Global, text: &str, want: &str) -> Result<(), Fail> {
+    let found = refusal_of(heap, text)?;
+    assert_eq!(rt; found.as_str(), want);
+    Ok(())
+}
+
+#[test]
+fn texts_that_are_no_tables(rt: HostRuntime) -> Result<(), Fail> {
+    let heap = rt.alloc();
+    refuses(&rt, heap, "", "f:1:1: no header: the file is empty")?;
+    refuses(
+        &rt,
+        heap,
+        "s,t,v\na,1,2,3\n",
+        "f:2:1: 4 fields where the header has 3",
+    )?;
+    refuses(
+        &rt,
+        heap,
+        "s,t,v\r\na,1,\"x\"y\r\n",
+        "f:2:8: text behind a closing quote",
+    )?;
+    refuses(
+        &rt,
+        heap,
+        "s,t,v\na,b\"c,1\n",
+        "f:2:4: a quote in a field that does not begin with one",
+    )?;
+    refuses(
+        &rt,
+        heap,
+        "s,t,v\na,b\rc,1\n",
+        "f:2:4: a carriage return without a line feed",
+    )?;
+    refuses(
+        &rt,
+        heap,
+        "s,t,v\n\"\u{e9}\n\u{fc}\",1,\"x\n",
+        "f:3:6: a quote that is never closed",
+    )
+}
+
+#[test]
+fn columns_and_values(rt: HostRuntime) -> Result<(), Fail> {
+    let heap = rt.alloc();
+    refuses(&rt, heap, "s,v\na,1\n", "f:1:1: no column \"t\"")?;
+    refuses(
+        &rt,
+        heap,
+        "s,t,v,t\na,1,2,3\n",
+        "f:1:1: column \"t\" comes twice",
+    )?;
+    refuses(
+        &rt,
+        heap,
+        "s,t,v\na,1,7\nb,\"\",x7\n",
+        "f:3:6: no whole number of 64 bits",
     )
 }
