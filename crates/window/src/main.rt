@@ -8,6 +8,7 @@ use help::topics::text as help_text;
 use options::asked::Asked;
 use options::command::Command;
 use options::parse::parse;
+use replayed::script::replayed;
 use sessions::report::report;
 use std::io::Write;
 use std::process::ExitCode;
@@ -88,6 +89,25 @@ fn run_report(rt: &HostRuntime, file: Option<&str>) -> io::Result<ExitCode> {
     }
 }
 
+// A list of calls, each with how it ended.
+fn run_replay(rt: &HostRuntime, file: Option<&str>) -> io::Result<ExitCode> {
+    let file = file.filter(|file| *file != INPUT);
+    let Some(text) = read_file(rt, file)? else {
+        return Ok(ExitCode::FAILURE);
+    };
+    match replayed(rt.alloc(), text.as_str()) {
+        Ok(told) => {
+            print!(rt; "{told}")?;
+            Ok(ExitCode::SUCCESS)
+        }
+        Err(wrong) => {
+            let name = file.unwrap_or(INPUT);
+            eprintln!(rt; "{name}:{wrong}")?;
+            Ok(ExitCode::FAILURE)
+        }
+    }
+}
+
 fn run(rt: &HostRuntime, words: &[&str]) -> io::Result<ExitCode> {
     match parse(rt.alloc(), words) {
         Ok(Command::Answer(asked)) => run_answer(rt, &asked),
@@ -102,9 +122,9 @@ fn run(rt: &HostRuntime, words: &[&str]) -> io::Result<ExitCode> {
             print!(rt; "{told}")?;
             Ok(ExitCode::SUCCESS)
         }
-        // left to crates that are not wired in here
-        Ok(Command::Picture { .. }) | Ok(Command::Replay { .. }) => {
-            eprintln!(rt; "window: pictures and replays are not built in yet")?;
+        Ok(Command::Replay { file }) => run_replay(rt, file),
+        Ok(Command::Picture { .. }) => {
+            eprintln!(rt; "window: this program does not draw pictures yet")?;
             Ok(ExitCode::FAILURE)
         }
         Err(misuse) => {
