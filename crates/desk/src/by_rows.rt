@@ -36,11 +36,13 @@ pub(crate) fn answer_by_rows<'a, E: RowEvaluator + Drop>(
     told: Told,
 ) -> Result<(Vec<E::Answer>, Told), Refusal<'a>> {
     match answer_moving(heap, evaluator, rows, step) {
-        Ok(Moved {
-            answers,
-            shown,
-            too_early,
-        }) => {
+        Ok(
+            Moved {
+                answers,
+                shown,
+                too_early,
+            },
+        ) => {
             let told = told.and(shown.as_slice(), too_early);
             Ok((answers, told))
         }

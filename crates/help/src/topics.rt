@@ -4,7 +4,6 @@ use options::command::Topic;
 // The program's words.
 const PROGRAM: &str =
     "window FUNCTION [options] [FILE]     write FILE with the function's answers as a new last column
-window picture FUNCTION [options] [FILE]     draw one partition as an SVG file
 window replay [FILE]     make a list of calls on a run, and tell how each ended
 window report [FILE]     the report of session records
 window explain NUMBER    what a refusal means, and what to do
@@ -27,9 +26,6 @@ Options of functions of values:
   --ignore-nulls        pass over empty values
 
 Frames are SQL's, of ROWS: rows between BOUND and BOUND, or rows BOUND, which ends at the current row. BOUND is unbounded preceding, N preceding, current row, N following or unbounded following. Give a frame as one word, in quotes.
-
-Option of picture:
-  --rows FROM-TO        only these rows of the partition
 ";
 
 // The text of a topic.
