@@ -17,6 +17,8 @@ pub struct State {
     last_answer: Option<Answer>,
     fixed: Option<Answer>,
     raised: usize,
+    /// Of a shift that looks ahead with NULLs ignored, the row that the last answer came from, or that there was none.
+    found: Option<Option<usize>>,
 }
 
 impl State {
@@ -32,6 +34,7 @@ impl State {
             last_answer: None,
             fixed: None,
             raised: 0,
+            found: None,
         })
     }
 
@@ -100,8 +103,50 @@ impl State {
         rows
     }
 
+    /// Whether the evaluator looks ahead past present rows.
+    fn seeks_ahead(&self) -> bool {
+        matches!(&self.evaluator, Evaluator::Shift { offset, ignoring: true, .. } if *offset < 0)
+    }
+
+    /// The row after the one that answered the row before, or the same while no present row is passed: windows that show one
+    /// partition find so what a look at all of them would; windows that contradict each other show none.
+    fn source_ahead(&self, offset: i64, rows: &[Cell]) -> Option<usize> {
+        match self.found {
+            None => Evaluator::shifted_row(offset, true, rows, self.next),
+            Some(found) if rows[self.next].is_none() => found.filter(|row| *row < rows.len()),
+            Some(found) => (found? + 1..rows.len()).find(|row| rows[*row].is_some()),
+        }
+    }
+
+    fn request_ahead(&mut self, request: &Request) -> Result<Answer, Refusal> {
+        let mut rows = self.first_rows(request);
+        rows[..request.begin].fill(None);
+        let Evaluator::Shift {
+            offset, default, ..
+        } = &self.evaluator
+        else {
+            unreachable!("only a shift looks ahead")
+        };
+        if self.next >= rows.len() {
+            return Err(Refusal(17, self.next));
+        }
+        let source = self.source_ahead(*offset, &rows);
+        if source.is_none() && self.total != Some(rows.len()) {
+            return Err(Refusal(17, self.next));
+        }
+        let answer = Answer::Cell(source.map_or(default.clone(), |row| rows[row].clone()));
+        self.shown = rows;
+        self.last = (0, 0);
+        self.next += 1;
+        self.found = Some(source);
+        Ok(answer)
+    }
+
     pub fn request(&mut self, request: &Request) -> Result<Answer, Refusal> {
         self.check(request)?;
+        if self.seeks_ahead() {
+            return self.request_ahead(request);
+        }
         let rows = self.first_rows(request);
         let frame = request
             .frame
