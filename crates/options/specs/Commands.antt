@@ -8,6 +8,7 @@ use Rattle.options.specs.declared.command.Topic.TheVariants as topic
 use Rattle.options.specs.declared.command.Drawing.{Drawing}
 use Rattle.options.specs.declared.function.Function.{Function}
 use Rattle.options.specs.declared.given.Given.{Given}
+use Rattle.options.specs.declared.key.Key.TheVariants.{Partition}
 use Rattle.options.specs.declared.misuse.Misuse.{Misuse}
 use Rattle.options.specs.declared.misuse.Misuse.TheVariants as misuse
 use Rattle.options.specs.Asking.{Asks, NotAsked}
@@ -15,7 +16,7 @@ use Rattle.options.specs.FrameTexts.{Counts}
 use Rattle.options.specs.Functions.{function_text}
 use Rattle.options.specs.Given.{Gives, Ungiven}
 use Rattle.options.specs.Keys.{Dashed}
-use Rattle.options.specs.Values.{BadRows, FileIs, RowsAre}
+use Rattle.options.specs.Values.{BadRows, ColumnsIs, FileIs, RowsAre}
 
 -- no word, or one that names a file
 abbrev pub OneFile : List (Bor (List ℕ)) → Option (Bor (List ℕ)) → Type 0
@@ -77,9 +78,10 @@ IsAnswer name ws (Explain n) = ⊥
 abbrev pub NotAnswer : Bor (List ℕ) → List (Bor (List ℕ)) → Misuse → Type 0
 NotAnswer name ws m = NoName name m ⊎ ((f : Function) × (name.now ≡ function_text f) × ¬ (IsHelp ws) × Unwanted f ws m)
 
--- a picture of what options ask, and of the rows that they give
+-- a picture of what options ask, and of the partition and the rows that they give
 pub record Draws (f : Function) (gs : List Given) (d : Drawing) : Type 0 where
   pub asked : Asks f true gs d.asked
+  pub partition : ColumnsIs gs Partition d.partition.items
   pub rows : RowsAre gs d.rows
 
 -- options that ask nothing of the function, or give rows that are none

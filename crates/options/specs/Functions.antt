@@ -4,7 +4,7 @@ use Rattle.options.specs.declared.function.Function.{Function}
 use Rattle.options.specs.declared.function.Function.TheVariants.{Lag, Lead, FirstValue, LastValue, NthValue, Rank, DenseRank, PercentRank, CumeDist, RowNumber}
 use Rattle.options.specs.declared.function.UnknownFunction.{UnknownFunction}
 use Rattle.options.specs.declared.key.Key.{Key}
-use Rattle.options.specs.declared.key.Key.TheVariants.{Of, PartitionBy, OrderBy, Offset, N, Default, IgnoreNulls, Frame, Kind, As, ByRows, Quiet, Rows, File}
+use Rattle.options.specs.declared.key.Key.TheVariants.{Of, PartitionBy, OrderBy, Offset, N, Default, IgnoreNulls, Frame, Kind, As, ByRows, Quiet, Rows, Partition, File}
 
 -- SQL's name of a function, in small letters
 abbrev pub function_text : Function → List ℕ
@@ -95,3 +95,4 @@ takes f drawn As = true
 takes f drawn Quiet = true
 takes f drawn File = true
 takes f drawn Rows = drawn
+takes f drawn Partition = drawn

@@ -2,7 +2,7 @@
 use Rattle.std.specs.Prelude.{◌≡◌, ℕ, Bool, true, false, List, codes, nat_eq, Result, MatchResult, IsTrue}
 use Rattle.std.specs.List.{starts_with}
 use Rattle.options.specs.declared.key.Key.{Key}
-use Rattle.options.specs.declared.key.Key.TheVariants.{Of, PartitionBy, OrderBy, Offset, N, Default, IgnoreNulls, Frame, Kind, As, ByRows, Quiet, Rows, File}
+use Rattle.options.specs.declared.key.Key.TheVariants.{Of, PartitionBy, OrderBy, Offset, N, Default, IgnoreNulls, Frame, Kind, As, ByRows, Quiet, Rows, Partition, File}
 use Rattle.options.specs.declared.key.UnknownKey.{UnknownKey}
 
 -- the word of an option
@@ -20,6 +20,7 @@ key_text As = codes "--as"
 key_text ByRows = codes "--by-rows"
 key_text Quiet = codes "--quiet"
 key_text Rows = codes "--rows"
+key_text Partition = codes "--partition"
 key_text File = codes "FILE"
 
 -- a value stands behind it
@@ -38,6 +39,7 @@ has_value Kind = true
 has_value As = true
 has_value ByRows = true
 has_value Rows = true
+has_value Partition = true
 
 -- the word looks like an option
 abbrev pub Dashed : List ℕ → Type 0
@@ -59,6 +61,7 @@ IsKey word As = word ≡ key_text As
 IsKey word ByRows = word ≡ key_text ByRows
 IsKey word Quiet = word ≡ key_text Quiet
 IsKey word Rows = word ≡ key_text Rows
+IsKey word Partition = word ≡ key_text Partition
 
 -- it looks like an option, and is none
 abbrev pub NoKey : List ℕ → Type 0

@@ -8,10 +8,11 @@ pub struct Rows {
     pub to: usize,
 }
 
-// A picture that is asked for, of these rows of a partition where any are named.
+// A picture that is asked for: of the partition with these contents, the first record's where none are named, and of these rows of it, all where none are.
 #[derive(Drop)]
 pub struct Drawing<'a> {
     pub asked: Asked<'a>,
+    pub partition: Vec<&'a str>,
     pub rows: Option<Rows>,
 }
 

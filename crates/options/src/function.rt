@@ -92,7 +92,7 @@ impl Function {
                 Function::FirstValue | Function::LastValue | Function::NthValue
             ),
             Key::ByRows => !matches!(self, Function::PercentRank | Function::CumeDist),
-            Key::Rows => drawn,
+            Key::Rows | Key::Partition => drawn,
             Key::PartitionBy | Key::OrderBy | Key::As | Key::Quiet | Key::File => true,
         }
     }

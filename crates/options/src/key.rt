@@ -20,6 +20,7 @@ pub enum Key {
     ByRows,
     Quiet,
     Rows,
+    Partition,
     File,
 }
 
@@ -47,6 +48,7 @@ impl FromStr for Key {
             "--by-rows" => Ok(Key::ByRows),
             "--quiet" => Ok(Key::Quiet),
             "--rows" => Ok(Key::Rows),
+            "--partition" => Ok(Key::Partition),
             _ if word.starts_with("--") => Err(UnknownKey),
             _ => Ok(Key::File),
         }
@@ -71,6 +73,7 @@ impl fmt::Display for Key {
             Key::ByRows => "--by-rows",
             Key::Quiet => "--quiet",
             Key::Rows => "--rows",
+            Key::Partition => "--partition",
             Key::File => "FILE",
         })
     }

@@ -152,7 +152,12 @@ fn drawn<'a>(
 {
     let asked = asked(heap, function, true, given)?;
     let rows = rows(given)?;
-    Ok(Drawing { asked, rows })
+    let partition = columns(heap, given, Key::Partition)?;
+    Ok(Drawing {
+        asked,
+        partition,
+        rows,
+    })
 }
 
 // A picture that words ask for.

@@ -6,9 +6,9 @@ use Rattle.picture.specs.Picture.{row_text, rows_text}
 pub three_appended : (t0 t1 t2 t3 a a' b c : List ℕ) → t0 ≡ [] → t1 ≡ t0 ++ a → t2 ≡ t1 ++ b → t3 ≡ t2 ++ c → a ≡ a' → t3 ≡ a' ++ (b ++ c)
 three_appended t0 t1 t2 t3 a a' b c e0 e1 e2 e3 same = rw (e3, e2, e1, e0, same) (append_assoc a' b c)
 
--- four texts behind one another
-pub four_appended : (t0 t1 t2 t3 t4 a b c d : List ℕ) → t1 ≡ t0 ++ a → t2 ≡ t1 ++ b → t3 ≡ t2 ++ c → t4 ≡ t3 ++ d → t4 ≡ t0 ++ (a ++ (b ++ (c ++ d)))
-four_appended t0 t1 t2 t3 t4 a b c d e1 e2 e3 e4 = rw (e4, e3, e2, e1) (append_assoc (t0 ++ a ++ b) c d ∙ append_assoc (t0 ++ a) b (c ++ d) ∙ append_assoc t0 a (b ++ (c ++ d)))
+-- five texts behind one another
+pub five_appended : (t0 t1 t2 t3 t4 t5 a b c d e : List ℕ) → t1 ≡ t0 ++ a → t2 ≡ t1 ++ b → t3 ≡ t2 ++ c → t4 ≡ t3 ++ d → t5 ≡ t4 ++ e → t5 ≡ t0 ++ (a ++ (b ++ (c ++ (d ++ e))))
+five_appended t0 t1 t2 t3 t4 t5 a b c d e e1 e2 e3 e4 e5 = rw (e5, e4, e3, e2, e1) (append_assoc (t0 ++ a ++ b ++ c) d e ∙ append_assoc (t0 ++ a ++ b) c (d ++ e) ∙ append_assoc (t0 ++ a) b (c ++ (d ++ e)) ∙ append_assoc t0 a (b ++ (c ++ (d ++ e))))
 
 -- one row more behind those so far
 pub row_more : (t new whole : List ℕ) (i : ℕ) (rs : List Row) (d : Row) → i < length rs → new ≡ t ++ row_text i (get_or rs i d) → t ++ rows_text i (drop i rs) ≡ whole → new ++ rows_text (i + 1) (drop (i + 1) rs) ≡ whole

@@ -56,17 +56,35 @@ curve_text i k = path_text (middle i) (bend i k) (between i k) (middle k)
 
 -- the word `default` in place of a curve
 abbrev pub default_text : ℕ → List ℕ
-default_text i = codes "<text class=\"default\" x=\"376\" y=\"" ++ (decimal (line i) ++ codes "\">default</text>\n")
+default_text i = codes "<text class=\"word\" x=\"384\" y=\"" ++ (decimal (line i) ++ codes "\">default</text>\n")
 
--- where the answer of row i comes from: a curve to its row, a word for the default, nothing where there is none
-abbrev pub answer_text : ℕ → Source → List ℕ
-answer_text i (source.Row k) = if nat_lt k 10000 then curve_text i k else []
-answer_text i source.Default = default_text i
-answer_text i source.Nothing = []
+-- the number of a row that is not drawn in place of a curve
+abbrev pub outside_text : ℕ → ℕ → List ℕ
+outside_text i number = codes "<text class=\"word\" x=\"384\" y=\"" ++ (decimal (line i) ++ (codes "\">row " ++ (decimal number ++ codes "</text>\n")))
+
+-- where the answer of row i comes from: a curve to its row, words where that is not drawn or for the default, nothing where there is none
+abbrev pub source_text : ℕ → Source → List ℕ
+source_text i (source.Row k) = if nat_lt k 10000 then curve_text i k else []
+source_text i (source.Outside number) = outside_text i number
+source_text i source.Default = default_text i
+source_text i source.Nothing = []
+
+-- the answer of row i as a text
+abbrev pub shown_answer_text : ℕ → List ℕ → List ℕ
+shown_answer_text i answer = codes "<text x=\"460\" y=\"" ++ (decimal (line i) ++ (codes "\">" ++ (answer ++ codes "</text>\n")))
+
+-- the word for an answer that is NULL
+abbrev pub null_answer_text : ℕ → List ℕ
+null_answer_text i = codes "<text class=\"head\" x=\"460\" y=\"" ++ (decimal (line i) ++ codes "\">NULL</text>\n")
+
+-- the answer of row i, or the word for NULL
+abbrev pub answer_text : ℕ → Option (Bor (List ℕ)) → List ℕ
+answer_text i (Some answer) = shown_answer_text i (shown 24 answer.now)
+answer_text i None = null_answer_text i
 
 -- a bar beside the rows from s up to e, the end not included
 abbrev pub bar_text : ℕ → ℕ → ℕ → List ℕ
-bar_text i s e = codes "<rect class=\"held\" x=\"" ++ (decimal (540 + 8 * i) ++ (codes "\" y=\"" ++ (decimal (top s) ++ (codes "\" width=\"6\" height=\"" ++ (decimal (24 * (e - s) - 6) ++ codes "\"/>\n")))))
+bar_text i s e = codes "<rect class=\"held\" x=\"" ++ (decimal (650 + 8 * i) ++ (codes "\" y=\"" ++ (decimal (top s) ++ (codes "\" width=\"6\" height=\"" ++ (decimal (24 * (e - s) - 6) ++ codes "\"/>\n")))))
 
 -- the bar of the rows that are held when row i is answered, if any are
 abbrev pub held_text : ℕ → Option Held → List ℕ
@@ -75,11 +93,11 @@ held_text i (Some h) = if nat_lt h.start h.end && nat_le h.end 10000 then bar_te
 
 -- all that is drawn of row i
 abbrev pub row_text : ℕ → Row → List ℕ
-row_text i r = label_text i (shown 24 r.label.now) ++ (box_text i r.value ++ (answer_text i r.source ++ held_text i r.held))
+row_text i r = label_text i (shown 24 r.label.now) ++ (box_text i r.value ++ (source_text i r.source ++ (answer_text i r.answer ++ held_text i r.held)))
 
 -- what stands above n rows: the title, the style and the heads of the columns
 abbrev pub head_text : ℕ → List ℕ → List ℕ
-head_text n title = codes "<svg xmlns=\"http://www.w3.org/2000/svg\" width=\"" ++ (decimal (660 + 8 * n) ++ (codes "\" height=\"" ++ (decimal (top n + 12) ++ (codes "\">\n<text class=\"title\" x=\"12\" y=\"22\">" ++ (title ++ (codes "</text>\n" ++ STYLE.now))))))
+head_text n title = codes "<svg xmlns=\"http://www.w3.org/2000/svg\" width=\"" ++ (decimal (840 + 8 * n) ++ (codes "\" height=\"" ++ (decimal (top n + 12) ++ (codes "\">\n" ++ (STYLE.now ++ (codes "<text class=\"title\" x=\"12\" y=\"22\">" ++ (title ++ codes "</text>\n")))))))
 
 -- each row, from the i-th on
 abbrev pub rows_text : ℕ → List Row → List ℕ

@@ -1,7 +1,7 @@
 // The picture: a line for each row, from top to bottom, and a curve from its answer to the row that it comes from.
 ghost use Rattle.std.specs.Prelude.{◌≡◌, ◌+◌, ◌*◌, ◌<◌, ◌≤◌, ◌++◌, MatchResult, OnOk, string_bytes, length};
 ghost use Rattle.picture.specs.Escape.{shown};
-ghost use Rattle.picture.specs.Picture.{IsUndrawn, answer_text, bend, between, box_text, curve_text, default_text, head_text, held_text, label_text, line, middle, null_text, path_text, picture_text, row_text, rows_text, top, value_text};
+ghost use Rattle.picture.specs.Picture.{IsUndrawn, answer_text, bend, between, box_text, curve_text, default_text, head_text, held_text, label_text, line, middle, null_answer_text, null_text, outside_text, path_text, picture_text, row_text, rows_text, shown_answer_text, source_text, top, value_text};
 
 use crate::escape::shown;
 use crate::row::{Held, Row, Source, Undrawn};
@@ -151,20 +151,73 @@ fn write_default(text: &mut String, i: usize) -> Result<(), AllocError>
     let y = line(i);
     write!(
         text,
-        "<text class=\"default\" x=\"376\" y=\"{y}\">default</text>\n"
+        "<text class=\"word\" x=\"384\" y=\"{y}\">default</text>\n"
     )?;
     Ok(())
 }
 
-// A curve to the row that the answer of row i comes from, or the word `default`.
-fn write_answer(text: &mut String, i: usize, source: Source) -> Result<(), AllocError>
+fn write_outside(text: &mut String, i: usize, number: usize) -> Result<(), AllocError>
     requires { i < 10000 }
-    ensures { OnOk result (string_bytes text.new ≡ string_bytes text.old ++ answer_text i source) }
+    ensures { OnOk result (string_bytes text.new ≡ string_bytes text.old ++ outside_text i number) }
+{
+    let y = line(i);
+    write!(
+        text,
+        "<text class=\"word\" x=\"384\" y=\"{y}\">row {number}</text>\n"
+    )?;
+    Ok(())
+}
+
+// A curve to the row that the answer of row i comes from, or words in its place.
+fn write_source(text: &mut String, i: usize, source: Source) -> Result<(), AllocError>
+    requires { i < 10000 }
+    ensures { OnOk result (string_bytes text.new ≡ string_bytes text.old ++ source_text i source) }
 {
     match source {
         Source::Row(row) if row < MOST => write_curve(text, i, row),
+        Source::Outside(number) => write_outside(text, i, number),
         Source::Default => write_default(text, i),
         _ => Ok(()),
+    }
+}
+
+fn write_shown_answer(text: &mut String, i: usize, answer: &str) -> Result<(), AllocError>
+    requires { i < 10000 }
+    ensures { OnOk result (string_bytes text.new ≡ string_bytes text.old ++ shown_answer_text i answer.now) }
+{
+    let y = line(i);
+    write!(text, "<text x=\"460\" y=\"{y}\">{answer}</text>\n")?;
+    Ok(())
+}
+
+fn write_null_answer(text: &mut String, i: usize) -> Result<(), AllocError>
+    requires { i < 10000 }
+    ensures { OnOk result (string_bytes text.new ≡ string_bytes text.old ++ null_answer_text i) }
+{
+    let y = line(i);
+    write!(
+        text,
+        "<text class=\"head\" x=\"460\" y=\"{y}\">NULL</text>\n"
+    )?;
+    Ok(())
+}
+
+// The answer of row i.
+fn write_answer(
+    heap: Global,
+    text: &mut String,
+    i: usize,
+    answer: Option<&str>,
+) -> Result<(), AllocError>
+    requires { i < 10000 }
+    ensures { OnOk result (string_bytes text.new ≡ string_bytes text.old ++ answer_text i answer.entry) }
+{
+    match answer {
+        Some(answer) => {
+            let answer = shown(heap, VALUE, answer)?;
+            write_shown_answer(text, i, answer.as_str())
+        }
+        None => write_null_answer(text, i),
     }
 }
 
@@ -175,7 +228,7 @@ fn write_held(text: &mut String, i: usize, held: Option<Held>) -> Result<(), All
 {
     if let Some(Held { start, end }) = held {
         if start < end && end <= MOST {
-            let x = 540 + 8 * i;
+            let x = 650 + 8 * i;
             let y = top(start);
             let height = 24 * (end - start) - 6;
             write!(
@@ -193,25 +246,26 @@ fn write_row(heap: Global, text: &mut String, i: usize, row: &Row<'_>) -> Result
 {
     write_label(heap, text, i, row.label)?;
     write_box(heap, text, i, row.value)?;
-    write_answer(text, i, row.source)?;
+    write_source(text, i, row.source)?;
+    write_answer(heap, text, i, row.answer)?;
     write_held(text, i, row.held)?;
     Ok(())
 }
 
 // The style, the tip of a curve, and the heads of the columns.
 const STYLE: &str =
-    "<style>text{font:12px sans-serif}text.title{font-size:15px}text.head{fill:#555}rect.value{fill:#e9f0f8;stroke:#456}rect.null{fill:none;stroke:#888;stroke-dasharray:4 3}path.answer{fill:none;stroke:#a31;marker-end:url(#tip)}text.default{fill:#a31}rect.held{fill:#8b8}</style>\n<defs><marker id=\"tip\" markerWidth=\"7\" markerHeight=\"7\" refX=\"6\" refY=\"3\" orient=\"auto\"><path d=\"M0 0L6 3L0 6z\" fill=\"#a31\"/></marker></defs>\n<rect width=\"100%\" height=\"100%\" fill=\"white\"/>\n<text class=\"head\" x=\"12\" y=\"46\">row</text>\n<text class=\"head\" x=\"180\" y=\"46\">value</text>\n<text class=\"head\" x=\"376\" y=\"46\">answered from</text>\n<text class=\"head\" x=\"540\" y=\"46\">held, row by row</text>\n";
+    "<style>text{font:12px sans-serif}text.title{font-size:15px}text.head{fill:#555}rect.value{fill:#e9f0f8;stroke:#456}rect.null{fill:none;stroke:#888;stroke-dasharray:4 3}path.answer{fill:none;stroke:#a31;marker-end:url(#tip)}text.word{fill:#a31}rect.held{fill:#8b8}</style>\n<defs><marker id=\"tip\" markerWidth=\"7\" markerHeight=\"7\" refX=\"6\" refY=\"3\" orient=\"auto\"><path d=\"M0 0L6 3L0 6z\" fill=\"#a31\"/></marker></defs>\n<rect width=\"100%\" height=\"100%\" fill=\"white\"/>\n<text class=\"head\" x=\"12\" y=\"46\">row</text>\n<text class=\"head\" x=\"180\" y=\"46\">value</text>\n<text class=\"head\" x=\"376\" y=\"46\">from</text>\n<text class=\"head\" x=\"460\" y=\"46\">answer</text>\n<text class=\"head\" x=\"650\" y=\"46\">rows held, with --by-rows</text>\n";
 
 // What stands above the rows, n of them.
 fn write_head(text: &mut String, n: usize, title: &str) -> Result<(), AllocError>
     requires { n ≤ 10000 }
     ensures { OnOk result (string_bytes text.new ≡ string_bytes text.old ++ head_text n title.now) }
 {
-    let width = 660 + 8 * n;
+    let width = 840 + 8 * n;
     let height = top(n) + 12;
     write!(
         text,
-        "<svg xmlns=\"http://www.w3.org/2000/svg\" width=\"{width}\" height=\"{height}\">\n<text class=\"title\" x=\"12\" y=\"22\">{title}</text>\n{STYLE}"
+        "<svg xmlns=\"http://www.w3.org/2000/svg\" width=\"{width}\" height=\"{height}\">\n{STYLE}<text class=\"title\" x=\"12\" y=\"22\">{title}</text>\n"
     )?;
     Ok(())
 }

@@ -3,10 +3,11 @@ ghost use Rattle.picture.specs.declared.row.Undrawn.TheVariants.{Memory as NoMem
 
 use std::alloc::AllocError;
 
-// Where the answer of a row comes from.
+// Where the answer of a row comes from: a row that is drawn, counted from 0; one that is not, by its number; the default; or no row.
 #[derive(Clone, Copy)]
 pub enum Source {
     Row(usize),
+    Outside(usize),
     Default,
     Nothing,
 }
@@ -18,12 +19,13 @@ pub struct Held {
     pub end: usize,
 }
 
-// A row of the partition: its label, its value or NULL, where its answer comes from, and what is held when it is answered, if that is row by row.
+// A row of the partition: its label, its value or NULL, where its answer comes from, the answer or NULL, and what is held when it is answered, if that is row by row.
 #[derive(Clone, Copy)]
 pub struct Row<'a> {
     pub label: &'a str,
     pub value: Option<&'a str>,
     pub source: Source,
+    pub answer: Option<&'a str>,
     pub held: Option<Held>,
 }
 
