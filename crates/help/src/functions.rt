@@ -1,7 +1,11 @@
+ghost use Rattle.help.specs.Texts.{Calls};
+
 use options::function::Function;
 
 // What a function answers, its options and an example.
-pub fn usage(function: Function) -> &'static str {
+pub fn usage(function: Function) -> &'static str
+    ensures { Calls function result.now }
+{
     match function {
         Function::Lag => {
             "window lag --of COLUMN [options] [FILE]

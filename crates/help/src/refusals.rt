@@ -1,8 +1,10 @@
-ghost use Rattle.std.specs.Prelude.{◌↔◌, ◌≤◌, IsSome};
+ghost use Rattle.std.specs.Prelude.{◌↔◌, ◌≤◌, IfSome, IsSome};
+ghost use Rattle.help.specs.Texts.{Numbered};
 
 // What the refusal of a number means, and what to do; refusals have the numbers 1 to 20.
 pub fn explanation(number: usize) -> Option<&'static str>
-    ensures { IsSome result ↔ ((1 ≤ number) × (number ≤ 20)) }
+    ensures numbers { IsSome result ↔ ((1 ≤ number) × (number ≤ 20)) }
+    ensures begins { IfSome result (λ text. Numbered number text.now) }
 {
     match number {
         1 => Some(

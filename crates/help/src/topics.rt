@@ -1,3 +1,5 @@
+ghost use Rattle.help.specs.Texts.{Explains};
+
 use crate::functions::usage;
 use options::command::Topic;
 
@@ -29,7 +31,9 @@ Frames are SQL's, of ROWS: rows between BOUND and BOUND, or rows BOUND, which en
 ";
 
 // The text of a topic.
-pub fn text(topic: Topic) -> &'static str {
+pub fn text(topic: Topic) -> &'static str
+    ensures { Explains topic result.now }
+{
     match topic {
         Topic::Program => PROGRAM,
         Topic::Function(function) => usage(function),

@@ -56,11 +56,11 @@ curve_text i k = path_text (middle i) (bend i k) (between i k) (middle k)
 
 -- the word `default` in place of a curve
 abbrev pub default_text : ℕ → List ℕ
-default_text i = codes "<text class=\"word\" x=\"384\" y=\"" ++ (decimal (line i) ++ codes "\">default</text>\n")
+default_text i = codes "<text class=\"word\" x=\"396\" y=\"" ++ (decimal (line i) ++ codes "\">default</text>\n")
 
 -- the number of a row that is not drawn in place of a curve
 abbrev pub outside_text : ℕ → ℕ → List ℕ
-outside_text i number = codes "<text class=\"word\" x=\"384\" y=\"" ++ (decimal (line i) ++ (codes "\">row " ++ (decimal number ++ codes "</text>\n")))
+outside_text i number = codes "<text class=\"word\" x=\"396\" y=\"" ++ (decimal (line i) ++ (codes "\">row " ++ (decimal number ++ codes "</text>\n")))
 
 -- where the answer of row i comes from: a curve to its row, words where that is not drawn or for the default, nothing where there is none
 abbrev pub source_text : ℕ → Source → List ℕ

@@ -151,7 +151,7 @@ fn write_default(text: &mut String, i: usize) -> Result<(), AllocError>
     let y = line(i);
     write!(
         text,
-        "<text class=\"word\" x=\"384\" y=\"{y}\">default</text>\n"
+        "<text class=\"word\" x=\"396\" y=\"{y}\">default</text>\n"
     )?;
     Ok(())
 }
@@ -163,7 +163,7 @@ fn write_outside(text: &mut String, i: usize, number: usize) -> Result<(), Alloc
     let y = line(i);
     write!(
         text,
-        "<text class=\"word\" x=\"384\" y=\"{y}\">row {number}</text>\n"
+        "<text class=\"word\" x=\"396\" y=\"{y}\">row {number}</text>\n"
     )?;
     Ok(())
 }

@@ -6,7 +6,9 @@ use desk::message::message;
 use help::refusals::explanation;
 use help::topics::text as help_text;
 use options::asked::Asked;
-use options::command::Command;
+use drawing::drawing::drawing;
+use drawing::message::message as undrawn;
+use options::command::{Command, Drawing};
 use options::parse::parse;
 use replayed::script::replayed;
 use sessions::report::report;
@@ -70,6 +72,27 @@ fn run_answer(rt: &HostRuntime, asked: &Asked<'_>) -> io::Result<ExitCode> {
     }
 }
 
+// A partition, drawn.
+fn run_picture(rt: &HostRuntime, wanted: &Drawing<'_>) -> io::Result<ExitCode> {
+    let file = wanted.asked.file.filter(|file| *file != INPUT);
+    let Some(text) = read_file(rt, file)? else {
+        return Ok(ExitCode::FAILURE);
+    };
+    let heap = rt.alloc();
+    let bytes = text.as_str().as_bytes();
+    match drawing(heap, bytes, wanted) {
+        Ok(picture) => {
+            print!(rt; "{picture}")?;
+            Ok(ExitCode::SUCCESS)
+        }
+        Err(refusal) => {
+            let told = undrawn(heap, file.unwrap_or(INPUT), bytes, &refusal)?;
+            eprintln!(rt; "{told}")?;
+            Ok(ExitCode::FAILURE)
+        }
+    }
+}
+
 // The sessions' report.
 fn run_report(rt: &HostRuntime, file: Option<&str>) -> io::Result<ExitCode> {
     let file = file.filter(|file| *file != INPUT);
@@ -123,10 +146,7 @@ fn run(rt: &HostRuntime, words: &[&str]) -> io::Result<ExitCode> {
             Ok(ExitCode::SUCCESS)
         }
         Ok(Command::Replay { file }) => run_replay(rt, file),
-        Ok(Command::Picture { .. }) => {
-            eprintln!(rt; "window: this program does not draw pictures yet")?;
-            Ok(ExitCode::FAILURE)
-        }
+        Ok(Command::Picture(drawing)) => run_picture(rt, &drawing),
         Err(misuse) => {
             eprintln!(rt; "window: {misuse}")?;
             Ok(ExitCode::FAILURE)

@@ -1,0 +1,5 @@
+#![tactic(auto)]
+
+// One partition of a table with its answers, drawn.
+pub mod rows;
+pub mod sources;
