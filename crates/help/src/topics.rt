@@ -6,6 +6,7 @@ use options::command::Topic;
 // The program's words.
 const PROGRAM: &str =
     "window FUNCTION [options] [FILE]     write FILE with the function's answers as a new last column
+window picture FUNCTION [options] [FILE]     draw one partition as SVG: where each answer comes from
 window replay [FILE]     make a list of calls on a run, and tell how each ended
 window report [FILE]     the report of session records
 window explain NUMBER    what a refusal means, and what to do
@@ -26,6 +27,10 @@ Options of functions of values:
   --of COLUMN           the column whose values are answered
   --kind KIND           what its values are: instant, pseudonym, code or outcome (instant)
   --ignore-nulls        pass over empty values
+
+Options of pictures:
+  --partition A,B       draw the partition with these contents in the columns of --partition-by (the first record's)
+  --rows FROM-TO        draw these rows of it (all)
 
 Frames are SQL's, of ROWS: rows between BOUND and BOUND, or rows BOUND, which ends at the current row. BOUND is unbounded preceding, N preceding, current row, N following or unbounded following. Give a frame as one word, in quotes.
 ";
