@@ -1,11 +1,11 @@
 -- How many fields a table has.
-use Rattle.std.proofs.Common.{◌≡◌, ℕ, ◌+◌, ◌-◌, ◌*◌, ◌/◌, ◌<◌, List, [], ◌∷◌, ◌++◌, map, length, Bor, refl, sym, ap, ◌∙◌, arith, length-append}
+use Rattle.std.proofs.Common.{◌≡◌, ℕ, ◌-◌, ◌*◌, ◌/◌, ◌<◌, List, [], ◌∷◌, length, Bor, sym, ap, ◌∙◌, arith, length-append}
 use Rattle.std.proofs.lemmas.List.{length-map}
 use Rattle.std.proofs.Math.Nat.{mul-div_cancel_left}
 use Rattle.std.specs.List.{flat_map}
 use Rattle.table.specs.Columns.{ColumnOf}
 use Rattle.table.specs.declared.content.Content.{Content}
-use Rattle.table.specs.Tables.{Entry, IsBody, IsTable, ReadsTo}
+use Rattle.table.specs.Tables.{Entry, IsTable, ReadsTo}
 
 rows_fields : (width : ℕ) (text : List ℕ) (rows : List Entry) (rest : List ℕ) → ReadsTo width text rows rest → length (flat_map (λ e. e.fields) rows) ≡ width * length rows
 rows_fields width text [] rest r = grind arith

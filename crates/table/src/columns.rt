@@ -14,7 +14,8 @@ pub fn names<'a>(heap: Global, table: &Table<'a>) -> Result<Vec<Content<'a>>, Al
     ensures { IfOk result (λ v. NamesOf table.now.width table.now.fields.items v.items) }
 {
     let mut names = Vec::new(heap);
-    for raw in table.fields.iter().take(table.width) {
+    let header = table.width.min(table.fields.len());
+    for raw in &table.fields[..header] {
         names.push(unquote(heap, raw)?)?;
     }
     Ok(names)
@@ -33,8 +34,9 @@ pub fn contents<'a>(
     if column >= table.width {
         return Ok(contents);
     }
-    for row in table.fields.chunks_exact(table.width).skip(1) {
-        contents.push(unquote(heap, row[column])?)?;
+    for record in 1..table.fields.len() / table.width {
+        let raw = table.fields[record * table.width + column];
+        contents.push(unquote(heap, raw)?)?;
     }
     Ok(contents)
 }
