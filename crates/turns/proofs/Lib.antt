@@ -1,0 +1,4 @@
+pub mod Climbs
+pub mod Placed
+pub mod Said
+pub mod Compares
