@@ -1,5 +1,5 @@
 -- Rows numbered by keys. Assumes nothing.
-use Rattle.std.specs.Prelude.{◌≡◌, ℕ, ℤ, ◌<◌, ◌⊎◌, List, [], ◌∷◌, length, map, min, slice_index, slice_index_or, Option, Some, None, Contains}
+use Rattle.std.specs.Prelude.{◌≡◌, ℕ, ℤ, ◌<◌, ◌⊎◌, ◌↔◌, List, [], ◌∷◌, length, map, min, slice_index, slice_index_or, Option, Some, None, Contains}
 use Rattle.std.specs.Cmp.Lexicographic.{slice_cmp}
 use Rattle.std.specs.List.{AllZip}
 use Rattle.std.specs.Ordering.{int_cmp, nat_cmp, ordering_then}
@@ -29,6 +29,10 @@ text_cell (b ∷ bs) = Some (b ∷ bs)
 -- by the bytes of a column's contents
 abbrev pub ByBytes : List ℕ → List Content → List ℕ → Type 0
 ByBytes numbers contents refined = Refined (slice_cmp nat_cmp) numbers (map (λ c. text_cell (bytes_of c)) contents) refined
+
+-- two rows have one number exactly where they had one and their contents are the same
+abbrev pub Alike : List ℕ → List Content → List ℕ → Type 0
+Alike numbers contents refined = (i j : ℕ) (d : Content) → i < length refined → j < length refined → (slice_index refined i ≡ slice_index refined j) ↔ ((slice_index numbers i ≡ slice_index numbers j) × (bytes_of (slice_index_or contents i d) ≡ bytes_of (slice_index_or contents j d)))
 
 -- a content says a whole number, or is NULL
 abbrev pub SaysCell : List ℕ → Option ℤ → Type 0

@@ -3,7 +3,7 @@ ghost use Rattle.std.specs.Prelude.{◌≡◌, ◌<◌, All, length, IfOk, IsSor
 ghost use Rattle.std.specs.Int.{from_bool};
 ghost use Rattle.std.specs.Ordering.{is_lt};
 ghost use Rattle.turns.specs.Keys.{AtRows, CellKeys, Numbered, TextCells, WithRows, key_cmp};
-ghost use Rattle.turns.specs.Numbers.{ByBytes, Refined};
+ghost use Rattle.turns.specs.Numbers.{Alike, ByBytes, Refined};
 
 use std::alloc::{AllocError, Global};
 use table::content::Content;
@@ -118,7 +118,8 @@ pub fn refine(
     numbers: &[usize],
     contents: &[Content<'_>],
 ) -> Result<Vec<usize>, AllocError>
-    ensures { IfOk result (λ v. ByBytes numbers.now contents.now v.items) }
+    ensures same { IfOk result (λ v. Alike numbers.now contents.now v.items) }
+    ensures order { IfOk result (λ v. ByBytes numbers.now contents.now v.items) }
 {
     let cells = text_cells(heap, contents)?;
     refine_by(heap, numbers, cells.as_slice(), b"")
