@@ -1,7 +1,7 @@
 -- Numbers that rise with keys in order.
 use Rattle.std.proofs.Common.{◌≡◌, ℕ, ◌+◌, ◌-◌, ◌<◌, ◌≤◌, false, List, [], ◌∷◌, ◌++◌, length, get_or, sym, ap, ◌∙◌, ⊎_elim, arith, below_more, length-append}
 use Rattle.std.proofs.Math.Seq.{get_or-append_seam}
-use Rattle.std.proofs.lemmas.Bool.{cases_lt}
+use Rattle.std.proofs.lemmas.Bool.{cases_eq, cases_lt}
 use Rattle.std.proofs.lemmas.Bool.Decides.{nat_tests}
 use Rattle.std.proofs.lemmas.Cmp.{alike_right, nat_cmp_total, tied_itself}
 use Rattle.std.proofs.lemmas.List.{get_or_append_left, get_or_default}
@@ -25,7 +25,7 @@ pub record Climbed {K : Type 0} (cmp : K → K → Ordering) (keys : List K) (i 
   pub each : (p q : ℕ) (d : K) → p < i → q < i → nat_cmp (get_or numbers p 0) (get_or numbers q 0) ≡ cmp (get_or keys p d) (get_or keys q d)
   pub top : (p : ℕ) → p < i → get_or numbers p 0 ≤ number
   pub last : 0 < i → get_or numbers (i - 1) 0 ≡ number
-  pub small : number ≤ i
+  pub small : number ≤ i - 1
 
 -- a number that rises by one where the key does
 risen : (o : Ordering) → is_lt (ordering_reverse o) ≡ false → (n r : ℕ) → r ≡ from_bool (is_lt o) → nat_cmp n (n + r) ≡ o
@@ -45,7 +45,7 @@ module _ {K : Type 0} {cmp : K → K → Ordering} (o : IsTotalOrder cmp) where
       (λ (l : b ≤ a). let s : a ≡ b = omega arith in ap (λ n. nat_cmp n m) s ∙ f ∙ sym (o.congr x y z (sym e ∙ same a b s)))
       (cases_lt a b)
 
-  module _ (keys : List K) (i : ℕ) (numbers : List ℕ) (number m : ℕ) (pushed : List ℕ) (c : Climbed cmp keys i numbers number) (p : pushed ≡ numbers ++ (m ∷ [])) (up : number ≤ m) (low : m ≤ number + 1) (step : (d : K) → 0 < i → nat_cmp number m ≡ cmp (get_or keys (i - 1) d) (get_or keys i d)) where
+  module _ (keys : List K) (i : ℕ) (numbers : List ℕ) (number m : ℕ) (pushed : List ℕ) (c : Climbed cmp keys i numbers number) (p : pushed ≡ numbers ++ (m ∷ [])) (up : number ≤ m) (low : m ≤ i) (step : (d : K) → 0 < i → nat_cmp number m ≡ cmp (get_or keys (i - 1) d) (get_or keys i d)) where
     old : (k : ℕ) → k < i → get_or pushed k 0 ≡ get_or numbers k 0
     old k h = ap (λ l. get_or l k 0) p ∙ get_or_append_left numbers (m ∷ []) 0 k (omega (arith, c.all))
 
@@ -79,7 +79,7 @@ module _ {K : Type 0} {cmp : K → K → Ordering} (o : IsTotalOrder cmp) where
           k hk;
       top = λ k h. below_more (λ k. get_or pushed k 0 ≤ m) i (λ k h. omega (arith, old k h, c.top k h)) (omega (arith, new)) k h;
       last = λ h. ap (λ n. get_or pushed n 0) (omega arith) ∙ new;
-      small = omega (arith, c.small);
+      small = omega (arith, low);
     }
 
 small_rise : (o : Ordering) → from_bool (is_lt o) ≤ 1
@@ -90,7 +90,12 @@ small_rise Greater = omega arith
 -- the number of the next of keys in order
 pub climb_step : {K : Type 0} {cmp : K → K → Ordering} → IsTotalOrder cmp → (keys : List K) (i before : ℕ) (e f : K) (numbers : List ℕ) (number rise : ℕ) (pushed : List ℕ) → Climbed cmp keys i numbers number → pushed ≡ numbers ++ ((number + rise) ∷ []) → i < length keys → IsSorted cmp keys → before ≡ i - 1 → rise ≡ from_bool (is_lt (cmp (get_or keys before e) (get_or keys i f))) → Climbed cmp keys (i + 1) pushed (number + rise)
 climb_step {cmp = cmp} o keys i before e f numbers number rise pushed c p h sorted b r =
-    climb_on o keys i numbers number (number + rise) pushed c p (omega arith) (omega (arith, r, small_rise (cmp (get_or keys before e) (get_or keys i f))))
+    let small : rise ≤ 1 = omega (arith, r, small_rise (cmp (get_or keys before e) (get_or keys i f))) in
+    let none : i ≡ 0 → rise ≡ 0 = λ z.
+    let one : get_or keys before e ≡ get_or keys i f = ap (λ n. get_or keys n e) (omega (arith, b, z)) ∙ get_or_default keys i e f h in
+    r ∙ ap (λ x. from_bool (is_lt (cmp x (get_or keys i f)))) one ∙ ap (λ o. from_bool (is_lt o)) (tied_itself o (get_or keys i f)) in
+    let low : number + rise ≤ i = ⊎_elim (λ (z : i ≡ 0). omega (arith, c.small, none z)) (λ (z : i ≡ 0 → ⊥). let some : 0 < i = grind (arith, z) in omega (arith, c.small, small)) (cases_eq i 0) in
+    climb_on o keys i numbers number (number + rise) pushed c p (omega arith) low
     (λ d some.
     let up : is_lt (cmp (get_or keys (i - 1 + 1) d) (get_or keys (i - 1) d)) ≡ false = sorted (i - 1) d (omega arith) (omega arith) in
     let next : i - 1 + 1 ≡ i = omega arith in
@@ -103,4 +108,5 @@ pub climb_done : {K : Type 0} (cmp : K → K → Ordering) (keys : List K) (i : 
 climb_done cmp keys i numbers number c e = record {
   all = c.all ∙ e;
   each = λ k l d hk hl. c.each k l d (omega (arith, e)) (omega (arith, e));
+  low = λ k hk. omega (arith, c.top k (omega (arith, e)), c.small, e);
 }

@@ -38,6 +38,7 @@ module _ {T : Type 0} {cmp : T → T → Ordering} (o : IsTotalOrder cmp) (null 
         let lj : j < length keys = omega (arith, n.all) in
         let both : lex cmp (get_or keys i d) (get_or keys j d) ≡ lex cmp (cell_key null (get_or numbers i 0) (get_or cells i None)) (cell_key null (get_or numbers j 0) (get_or cells j None)) = rw (k.each i d li, k.each j d lj) refl in
         n.each i j d li lj ∙ both ∙ lex_cells (get_or numbers i 0) (get_or numbers j 0) (get_or cells i None) (get_or cells j None);
+    low = λ i hi. omega (arith, n.low i (omega (arith, n.all)), n.all);
   }
 
 texts : (x y : Option (Bor (List ℕ))) → null_last (λ a b. slice_cmp nat_cmp a.now b.now) x y ≡ null_last (slice_cmp nat_cmp) (option_map (λ b. b.now) x) (option_map (λ b. b.now) y)
@@ -58,4 +59,5 @@ refined_texts numbers contents cells refined t r = record {
       let lj : j < length cells = omega (arith, r.all) in
       let both : null_last (slice_cmp nat_cmp) (option_map (λ b. b.now) (get_or cells i None)) (option_map (λ b. b.now) (get_or cells j None)) ≡ null_last (slice_cmp nat_cmp) (get_or (map (λ c. text_cell (bytes_of c)) contents) i None) (get_or (map (λ c. text_cell (bytes_of c)) contents) j None) = rw (text_at contents cells i t li, text_at contents cells j t lj) refl in
       r.each i j hi hj ∙ ap (ordering_then (nat_cmp (get_or numbers i 0) (get_or numbers j 0))) (texts (get_or cells i None) (get_or cells j None) ∙ both);
+  low = r.low;
 }

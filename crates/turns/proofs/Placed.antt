@@ -1,5 +1,5 @@
 -- Numbers at the rows that they belong to.
-use Rattle.std.proofs.Common.{◌≡◌, ℕ, ◌+◌, ◌<◌, List, length, get_or, set, refl, sym, ap, ◌∙◌, ⊎_elim, arith, below_more}
+use Rattle.std.proofs.Common.{◌≡◌, ℕ, ◌+◌, ◌<◌, List, [], ◌∷◌, length, get_or, set, refl, sym, ap, ◌∙◌, ⊎_elim, arith, below_more}
 use Rattle.std.proofs.lemmas.Bool.{cases_eq}
 use Rattle.std.proofs.lemmas.List.{get_or_default, get_or-set_same, get_or-set_other, length-set}
 use Rattle.std.proofs.lemmas.List.Sorted.{All-permutation, Contains-permutation, length_permutation}
@@ -12,6 +12,10 @@ use Rattle.turns.specs.Keys.{AtRows, Numbered, WithRows, key_cmp}
 pub record Placed {K : Type 0} (keys : List (K × ℕ)) (numbers : List ℕ) (i : ℕ) (placed : List ℕ) : Type 0 where
   pub all : length placed ≡ length keys
   pub each : (k : ℕ) (d : K × ℕ) → k < i → (j : ℕ) × (j < i) × ((get_or keys j d).1 ≡ (get_or keys k d).1) × (get_or placed (get_or keys k d).1 0 ≡ get_or numbers j 0)
+
+some_key : {K : Type 0} (keys : List K) → 0 < length keys → K
+some_key [] h = absurd (omega (arith, h))
+some_key (k ∷ keys) h = k
 
 module _ {K : Type 0} (cmp : K → K → Ordering) (keys : List K) (rows sorted : List (K × ℕ)) (numbers placed : List ℕ) (w : WithRows keys rows) (moved : IsPermutation rows sorted) (n : Numbered (key_cmp cmp) sorted numbers) (a : AtRows sorted numbers placed) where
   long : length sorted ≡ length keys
@@ -52,6 +56,7 @@ module _ {K : Type 0} (cmp : K → K → Ordering) (keys : List K) (rows sorted 
         let numbers_compare : nat_cmp (get_or placed r 0) (get_or placed s 0) ≡ nat_cmp (get_or numbers p.0 0) (get_or numbers q.0 0) = rw (p.2, q.2) refl in
         let keys_compare : cmp (get_or sorted p.0 (d, 0)).0 (get_or sorted q.0 (d, 0)).0 ≡ cmp (get_or keys r d) (get_or keys s d) = rw (p.3, q.3) refl in
         numbers_compare ∙ n.each p.0 q.0 (d, 0) p.1 q.1 ∙ keys_compare;
+    low = λ r hr. let p = found r (some_key keys (omega arith)) hr in omega (arith, p.2, n.low p.0 p.1, long);
   }
 
 pub rows_within : {K : Type 0} (keys : List K) (rows sorted : List (K × ℕ)) → WithRows keys rows → IsPermutation rows sorted → (k : ℕ) (d : K × ℕ) → k < length sorted → (get_or sorted k d).1 < length sorted

@@ -7,10 +7,11 @@ use Rattle.table.specs.Contents.{bytes_of}
 use Rattle.table.specs.declared.content.Content.{Content}
 use Rattle.turns.specs.Numbers.{text_cell}
 
--- as many numbers as keys, and two compare as their keys do
+-- as many numbers as keys, below their count, and two compare as their keys do
 pub record Numbered {K : Type 0} (cmp : K → K → Ordering) (keys : List K) (numbers : List ℕ) : Type 0 where
   pub all : length numbers ≡ length keys
   pub each : (i j : ℕ) (d : K) → i < length keys → j < length keys → nat_cmp (slice_index numbers i) (slice_index numbers j) ≡ cmp (slice_index_or keys i d) (slice_index_or keys j d)
+  pub low : (i : ℕ) → i < length keys → slice_index numbers i < length keys
 
 -- by key alone, of keys with their rows
 abbrev pub key_cmp : {K : Type 0} → (K → K → Ordering) → K × ℕ → K × ℕ → Ordering

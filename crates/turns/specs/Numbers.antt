@@ -16,10 +16,11 @@ null_last cmp None (Some y) = Greater
 null_last cmp (Some x) None = Less
 null_last cmp (Some x) (Some y) = cmp x y
 
--- numbers of the rows that have a number and a cell: two compare as the rows do by their numbers so far, and where these are the same by their cells
+-- numbers of the rows that have a number and a cell, below their count: two compare as the rows do by their numbers so far, and where these are the same by their cells
 pub record Refined {X : Type 0} (cmp : X → X → Ordering) (numbers : List ℕ) (cells : List (Option X)) (refined : List ℕ) : Type 0 where
   pub all : length refined ≡ min (length numbers) (length cells)
   pub each : (i j : ℕ) → i < length refined → j < length refined → nat_cmp (slice_index refined i) (slice_index refined j) ≡ ordering_then (nat_cmp (slice_index numbers i) (slice_index numbers j)) (null_last cmp (slice_index_or cells i None) (slice_index_or cells j None))
+  pub low : (i : ℕ) → i < length refined → slice_index refined i < length refined
 
 -- the bytes of a content, NULL where it has none
 abbrev pub text_cell : List ℕ → Option (List ℕ)
