@@ -1,5 +1,5 @@
 -- What fields say of values, and how values are written. Assumes nothing.
-use Rattle.std.specs.Prelude.{◌≡◌, ◌≤◌, ◌==◌, ℕ, List, [], ◌∷◌, ◌++◌, codes, decimal, length, take, position, slice_index, Option, Some, None}
+use Rattle.std.specs.Prelude.{◌≡◌, ◌≤◌, ◌==◌, ℕ, List, [], ◌∷◌, ◌++◌, ℤ, FitsSigned, codes, decimal, length, take, position, slice_index, Option, Some, None}
 use Rattle.std.specs.Fmt.{signed_decimal}
 use Rattle.std.specs.Int.{w64, from_be_bytes, to_be_bytes}
 use Rattle.std.specs.Str.Parse.{IsNumeral, digits_value, signed_digits_value, without_leading_plus, without_leading_sign}
@@ -16,6 +16,10 @@ SaysNumber bs n = IsNumeral 10 (without_leading_plus bs) × (n ≡ digits_value 
 -- the same, where the sign may be a minus
 abbrev pub SaysInstant : List ℕ → Instant → Type 0
 SaysInstant bs x = IsNumeral 10 (without_leading_sign bs) × (x.0 ≡ signed_digits_value 10 bs)
+
+-- the same of a number that 64 bits hold
+abbrev pub SaysWhole : List ℕ → ℤ → Type 0
+SaysWhole bs n = SaysInstant bs (record { 0 = n }) × FitsSigned w64 n
 
 -- the high part, a colon and the low part
 abbrev pub SaysPseudonym : List ℕ → Pseudonym → Type 0

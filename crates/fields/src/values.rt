@@ -1,7 +1,7 @@
 // Values of columns as fields have them.
-ghost use Rattle.std.specs.Prelude.{◌≡◌, ◌==◌, ℕ, List, ◌∷◌, ◌++◌, IfSome, MatchOption, OnOk, length, position, slice_index};
+ghost use Rattle.std.specs.Prelude.{◌≡◌, ◌==◌, ℕ, ℤ, List, ◌∷◌, ◌++◌, IfSome, MatchOption, OnOk, length, position, slice_index};
 ghost use Rattle.std.specs.Str.Iter.{LacksByte};
-ghost use Rattle.fields.specs.Values.{SaysCode, SaysInstant, SaysOutcome, SaysPseudonym, code_text, front_to, instant_text, outcome_text, pseudonym_text};
+ghost use Rattle.fields.specs.Values.{SaysCode, SaysInstant, SaysOutcome, SaysPseudonym, SaysWhole, code_text, front_to, instant_text, outcome_text, pseudonym_text};
 
 use column::kind::{CollegeCode, Instant, Kind, LoginOutcome, Pseudonym};
 use std::alloc::{AllocError, Global};
@@ -30,15 +30,21 @@ pub trait FieldValue: Kind {
     fn filler() -> Self;
 }
 
-// A whole number: digits, perhaps behind a sign.
+// A whole number of 64 bits: digits, perhaps behind a sign.
+pub fn whole_number(content: &[u8]) -> Option<i64>
+    ensures { MatchOption result ((n : ℤ) → SaysWhole content.now n → ⊥) (SaysWhole content.now) }
+{
+    str::from_utf8(content).ok()?.parse::<i64>().ok()
+}
+
+// A whole number.
 impl FieldValue for Instant {
     ghost says = { SaysInstant };
 
     ghost text = { instant_text };
 
     fn read(content: &[u8]) -> Option<Instant> {
-        let text = str::from_utf8(content).ok()?;
-        Some(Instant(text.parse::<i64>().ok()?))
+        Some(Instant(whole_number(content)?))
     }
 
     fn write(&self, heap: Global, out: &mut Vec<u8>) -> Result<(), AllocError> {

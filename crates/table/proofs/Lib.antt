@@ -4,3 +4,4 @@ pub mod Begun
 pub mod Sofar
 pub mod Undoubled
 pub mod Naming
+pub mod Saying

@@ -1,4 +1,7 @@
 // Columns of a table, and where their fields stand.
+ghost use Rattle.std.specs.Prelude.{◌≡◌, ◌<◌, ◌≤◌, [], IfOk};
+ghost use Rattle.table.specs.Columns.{ColumnOf, NamesOf};
+
 use crate::content::{Content, unquote};
 use crate::field::{Then, cut_field};
 use crate::place::{Place, end_of};
@@ -7,28 +10,33 @@ use crate::row::cut_row;
 use std::alloc::{AllocError, Global};
 
 // The names of the columns.
-pub fn names<'a>(heap: Global, table: &Table<'a>) -> Result<Vec<Content<'a>>, AllocError> {
+pub fn names<'a>(heap: Global, table: &Table<'a>) -> Result<Vec<Content<'a>>, AllocError>
+    ensures { IfOk result (λ v. NamesOf table.now.width table.now.fields.items v.items) }
+{
     let mut names = Vec::new(heap);
-    for raw in table.fields.iter().take(table.width) {
+    let header = table.width.min(table.fields.len());
+    for raw in &table.fields[..header] {
         names.push(unquote(heap, raw)?)?;
     }
     Ok(names)
 }
 
-// The contents of a column, below its name.
+// The contents of a column, below its name; none where there is no such column.
 pub fn contents<'a>(
     heap: Global,
     table: &Table<'a>,
     column: usize,
-) -> Result<Vec<Content<'a>>, AllocError> {
+) -> Result<Vec<Content<'a>>, AllocError>
+    ensures inside { IfOk result (λ v. column < table.now.width → ColumnOf table.now.width table.now.fields.items column v.items) }
+    ensures outside { IfOk result (λ v. table.now.width ≤ column → v.items ≡ []) }
+{
     let mut contents = Vec::new(heap);
-    if table.width == 0 {
+    if column >= table.width {
         return Ok(contents);
     }
-    for row in table.fields.chunks(table.width).skip(1) {
-        if let Some(raw) = row.get(column) {
-            contents.push(unquote(heap, raw)?)?;
-        }
+    for record in 1..table.fields.len() / table.width {
+        let raw = table.fields[record * table.width + column];
+        contents.push(unquote(heap, raw)?)?;
     }
     Ok(contents)
 }

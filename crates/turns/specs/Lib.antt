@@ -1,1 +1,3 @@
 pub mod Turns
+pub mod Numbers
+pub mod Keys

@@ -1,0 +1,5 @@
+pub mod Climbs
+pub mod Placed
+pub mod Said
+pub mod Compares
+pub mod Alike
