@@ -1,5 +1,6 @@
 // Columns of a table, and where their fields stand.
-ghost use Rattle.std.specs.Prelude.{◌≡◌, ◌<◌, ◌≤◌, [], IfOk};
+ghost use Rattle.std.specs.Prelude.{◌≡◌, ◌+◌, ◌*◌, ◌/◌, ◌<◌, ◌≤◌, List, ℕ, [], length, slice_index_or, IfOk};
+ghost use Rattle.std.specs.Borrow.{Bor};
 ghost use Rattle.table.specs.Columns.{ColumnOf, NamesOf};
 
 use crate::content::{Content, unquote};
@@ -21,6 +22,15 @@ pub fn names<'a>(heap: Global, table: &Table<'a>) -> Result<Vec<Content<'a>>, Al
     Ok(names)
 }
 
+// The field of a row as it stands in the text; row 0 is the record below the header.
+fn field_at<'a>(table: &Table<'a>, row: usize, column: usize) -> &'a [u8]
+    requires column { column < table.now.width }
+    requires row { row + 1 < length table.now.fields.items / table.now.width }
+    ensures { (e : Bor (List ℕ)) → result.now ≡ (slice_index_or table.now.fields.items ((row + 1) * table.now.width + column) e).now }
+{
+    table.fields[(row + 1) * table.width + column]
+}
+
 // The contents of a column, below its name; none where there is no such column.
 pub fn contents<'a>(
     heap: Global,
@@ -34,9 +44,9 @@ pub fn contents<'a>(
     if column >= table.width {
         return Ok(contents);
     }
-    for record in 1..table.fields.len() / table.width {
-        let raw = table.fields[record * table.width + column];
-        contents.push(unquote(heap, raw)?)?;
+    let rows = (table.fields.len() / table.width).saturating_sub(1);
+    for row in 0..rows {
+        contents.push(unquote(heap, field_at(table, row, column))?)?;
     }
     Ok(contents)
 }
