@@ -26,7 +26,7 @@ join_last (f ∷ g ∷ fs) r =
     ap (λ l. f.now ++ (44 ∷ l)) (join_last (g ∷ fs) r)
     ∙ sym (append_assoc (f.now ++ (44 ∷ [])) (begun_text (g ∷ fs)) r.now ∙ append_assoc f.now (44 ∷ []) (begun_text (g ∷ fs) ++ r.now))
 
-begun_more : (fs : List (Bor (List ℕ))) (r : Bor (List ℕ)) → begun_text (fs ++ (r ∷ [])) ≡ begun_text fs ++ (r.now ++ (44 ∷ []))
+pub begun_more : (fs : List (Bor (List ℕ))) (r : Bor (List ℕ)) → begun_text (fs ++ (r ∷ [])) ≡ begun_text fs ++ (r.now ++ (44 ∷ []))
 begun_more fs r = flat_map-append (λ (f : Bor (List ℕ)). f.now ++ (44 ∷ [])) fs (r ∷ []) ∙ ap (λ l. begun_text fs ++ l) (append-nil (r.now ++ (44 ∷ [])))
 
 module _ (text : List ℕ) (at : ℕ) (rest : List ℕ) (old new pushed : List (Bor (List ℕ))) (raw : Bor (List ℕ)) (b : Begun text at rest old new) (p : pushed ≡ new ++ (raw ∷ [])) where

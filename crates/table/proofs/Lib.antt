@@ -5,3 +5,5 @@ pub mod Sofar
 pub mod Undoubled
 pub mod Naming
 pub mod Saying
+pub mod Parting
+pub mod Fielding

@@ -25,7 +25,7 @@ pub reads_shorter : (width : ℕ) (text : List ℕ) (es : List Entry) (rest : Li
 reads_shorter width text [] rest r = omega (arith, ap length r)
 reads_shorter width text (e ∷ es) rest r = omega (arith, reads_shorter width r.2.0 es rest r.2.2, leads_shorter r.2.1)
 
-reads_more : (width : ℕ) (text : List ℕ) (es : List Entry) (rest : List ℕ) (e : Entry) (behind : List ℕ) → ReadsTo width text es rest → 0 < length rest → length e.fields ≡ width → Leads rest e.raw.now e.fields behind → ReadsTo width text (es ++ (e ∷ [])) behind
+pub reads_more : (width : ℕ) (text : List ℕ) (es : List Entry) (rest : List ℕ) (e : Entry) (behind : List ℕ) → ReadsTo width text es rest → 0 < length rest → length e.fields ≡ width → Leads rest e.raw.now e.fields behind → ReadsTo width text (es ++ (e ∷ [])) behind
 reads_more width text [] rest e behind r some many l = (rw r some, many, (behind, rw r l, refl))
 reads_more width text (x ∷ es) rest e behind r some many l = (r.0, r.1, (r.2.0, r.2.1, reads_more width r.2.0 es rest e behind r.2.2 some many l))
 

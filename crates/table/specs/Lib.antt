@@ -3,6 +3,7 @@ pub mod Rows
 pub mod Tables
 pub mod Contents
 pub mod Columns
+pub mod FieldPlaces
 pub mod TablesLemmas
 pub mod Names
 pub mod Messages

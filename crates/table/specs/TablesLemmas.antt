@@ -7,7 +7,7 @@ use Rattle.table.specs.Columns.{ColumnOf}
 use Rattle.table.specs.declared.content.Content.{Content}
 use Rattle.table.specs.Tables.{Entry, IsTable, ReadsTo}
 
-rows_fields : (width : ℕ) (text : List ℕ) (rows : List Entry) (rest : List ℕ) → ReadsTo width text rows rest → length (flat_map (λ e. e.fields) rows) ≡ width * length rows
+pub rows_fields : (width : ℕ) (text : List ℕ) (rows : List Entry) (rest : List ℕ) → ReadsTo width text rows rest → length (flat_map (λ e. e.fields) rows) ≡ width * length rows
 rows_fields width text [] rest r = grind arith
 rows_fields width text (e ∷ es) rest r =
     let more : length (flat_map (λ e. e.fields) es) ≡ width * length es = rows_fields width r.2.0 es rest r.2.2 in
