@@ -59,8 +59,8 @@ abbrev pub Shows : List ℕ → Option (Bor (List ℕ)) → Type 0
 Shows bytes o = MatchOption o (bytes ≡ []) (λ t. (bytes ≢ []) × (IsUtf8 bytes → t.now ≡ bytes))
 
 -- the row at a place of a partition, which is that of a record, as it is drawn
-pub record ShowsRow (columns : Columns) (seen : Seen) (span : Span) (place row : ℕ) (r : Row) : Type 0 where
-  pub label : r.label.now ≡ label_text place row
+pub record ShowsRow (columns : Columns) (seen : Seen) (span : Span) (place row : ℕ) (label : List ℕ) (r : Row) : Type 0 where
+  pub label_is : r.label.now ≡ label
   pub value : Shows (content_bytes (slice_get columns.values.now row)) r.value
   pub source : r.source ≡ source_in span (slice_index_or seen.sources.items place source.Nothing)
   pub answer : Shows (content_bytes (slice_get columns.answers.now row)) r.answer
@@ -78,10 +78,9 @@ row_at turns place = record_of (slice_get turns place)
 -- a label for each place of the span
 pub record Labels {Z : Type 0} (turns : List Turn) (span : Span) (labels : List (String Z)) : Type 0 where
   pub as_many : length labels ≡ span.to - span.from
-  pub within : span.to < 2 ^ 64
   pub each : (k : ℕ) (d : String Z) → k < length labels → string_bytes (slice_index_or labels k d) ≡ label_text (span.from + k) (row_at turns (span.from + k))
 
--- the rows that are drawn of a partition in turn, one for each place of the span
-pub record ShowsRows (turns : List Turn) (columns : Columns) (seen : Seen) (span : Span) (rows : List Row) : Type 0 where
-  pub as_many : length rows ≡ span.to - span.from
-  pub each : (k : ℕ) (d : Row) → k < length rows → ShowsRow columns seen span (span.from + k) (row_at turns (span.from + k)) (slice_index_or rows k d)
+-- the rows that are drawn of a partition in turn, one for each place of the span that has a label
+pub record ShowsRows {Z : Type 0} (turns : List Turn) (columns : Columns) (seen : Seen) (span : Span) (labels : List (String Z)) (rows : List Row) : Type 0 where
+  pub as_many : length rows ≡ min (length labels) (span.to - span.from)
+  pub each : (k : ℕ) (d : Row) (e : String Z) → k < length rows → ShowsRow columns seen span (span.from + k) (row_at turns (span.from + k)) (string_bytes (slice_index_or labels k e)) (slice_index_or rows k d)

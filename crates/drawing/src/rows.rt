@@ -13,13 +13,13 @@ use turns::layout::Turn;
 
 // The rows that are drawn: from the one at a place up to another, which is not.
 #[derive(Clone, Copy)]
-pub(crate) struct Span {
+pub struct Span {
     pub from: usize,
     pub to: usize,
 }
 
 // The span of the rows that are named, which count from 1; all where none are. None where no row of the partition is named.
-pub(crate) fn rows_drawn(rows: Option<Rows>, count: usize) -> Option<Span>
+pub fn rows_drawn(rows: Option<Rows>, count: usize) -> Option<Span>
     ensures { result ≡ rows_drawn rows count }
 {
     let Some(rows) = rows else {
@@ -91,7 +91,7 @@ fn shown(bytes: &[u8]) -> Option<&str>
 }
 
 // A content as a text, NULL where it is empty.
-pub(crate) fn content_text<'c>(contents: &'c [Content<'_>], row: usize) -> Option<&'c str>
+pub fn content_text<'c>(contents: &'c [Content<'_>], row: usize) -> Option<&'c str>
     ensures { Shows (content_bytes (slice_get contents.now row)) result }
 {
     shown(bytes_at(contents, row))
@@ -116,7 +116,7 @@ fn label(heap: Global, place: usize, row: usize) -> Result<String, AllocError>
 }
 
 // The label of each row that is drawn.
-pub(crate) fn labels(heap: Global, turns: &[Turn], span: Span) -> Result<Vec<String>, AllocError>
+pub fn labels(heap: Global, turns: &[Turn], span: Span) -> Result<Vec<String>, AllocError>
     ensures { IfOk result (λ v. Labels turns.now span v.items) }
 {
     let mut labels = Vec::new(heap);
@@ -128,7 +128,7 @@ pub(crate) fn labels(heap: Global, turns: &[Turn], span: Span) -> Result<Vec<Str
 
 // The columns that are drawn: the values, and the answers.
 #[derive(Clone, Copy)]
-pub(crate) struct Columns<'c> {
+pub struct Columns<'c> {
     pub values: &'c [Content<'c>],
     pub answers: &'c [Content<'c>],
 }
@@ -154,8 +154,7 @@ fn drawn_row<'c>(
     place: usize,
     row: usize,
 ) -> Row<'c>
-    requires { label.now ≡ label_text place row }
-    ensures { ShowsRow columns.entry seen.now span place row result }
+    ensures { ShowsRow columns.entry seen.now span place row label.now result }
 {
     Row {
         label,
@@ -166,8 +165,8 @@ fn drawn_row<'c>(
     }
 }
 
-// The rows that are drawn, with the labels of all of them.
-pub(crate) fn drawn_rows<'c>(
+// The rows that are drawn, each with its label.
+pub fn drawn_rows<'c>(
     heap: Global,
     turns: &[Turn],
     labels: &'c [String],
@@ -175,14 +174,13 @@ pub(crate) fn drawn_rows<'c>(
     seen: &Seen,
     span: Span,
 ) -> Result<Vec<Row<'c>>, AllocError>
-    requires { Labels turns.now span labels.now }
-    ensures { IfOk result (λ v. ShowsRows turns.now columns.entry seen.now span v.items) }
+    ensures { IfOk result (λ v. ShowsRows turns.now columns.entry seen.now span labels.now v.items) }
 {
     let mut rows = Vec::new(heap);
-    for (k, label) in labels.iter().enumerate() {
+    for k in 0..labels.len().min(span.to.saturating_sub(span.from)) {
         let place = span.from + k;
         let row = row_at(turns, place);
-        rows.push(drawn_row(label.as_str(), columns, seen, span, place, row))?;
+        rows.push(drawn_row(labels[k].as_str(), columns, seen, span, place, row))?;
     }
     Ok(rows)
 }

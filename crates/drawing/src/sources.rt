@@ -92,13 +92,13 @@ fn marks_of(
 
 // The places of a partition's rows as a column, with the frames of the rows.
 #[derive(Drop)]
-pub(crate) struct Places<'f> {
+pub struct Places<'f> {
     values: Vec<Instant>,
     marks: Vec<bool>,
     frames: &'f [(usize, usize)],
 }
 
-pub(crate) fn places_of<'f>(
+pub fn places_of<'f>(
     heap: Global,
     ignores: bool,
     contents: &[Content<'_>],
@@ -131,7 +131,7 @@ impl Places<'_> {
 
 // Where the answer of each row comes from, and what a run was shown for it; nothing is shown where whole partitions are answered.
 #[derive(Drop)]
-pub(crate) struct Seen {
+pub struct Seen {
     pub sources: Vec<Source>,
     pub shown: Vec<(usize, usize)>,
 }
@@ -273,11 +273,7 @@ fn see_nothing(heap: Global, places: &Places<'_>) -> Result<Seen, Stop>
 }
 
 // What is seen of the answers over the places of a partition's rows.
-pub(crate) fn see_answers(
-    heap: Global,
-    asked: &Asked<'_>,
-    places: &Places<'_>,
-) -> Result<Seen, Stop>
+pub fn see_answers(heap: Global, asked: &Asked<'_>, places: &Places<'_>) -> Result<Seen, Stop>
     ensures { IfOk result (SeesAnswers asked.now.function asked.now (held places.now)) }
 {
     let ignores = asked.ignore_nulls;
@@ -288,9 +284,19 @@ pub(crate) fn see_answers(
         Function::FirstValue => see(heap, &NthValue::first(ignores), places, by_rows),
         Function::LastValue => see(heap, &NthValue::last(ignores), places, by_rows),
         Function::NthValue => see_nth(heap, asked, places),
-        Function::Rank => see_none(heap, &Rank::<Instant>::new(RankType::Basic), places, by_rows),
+        Function::Rank => see_none(
+            heap,
+            &Rank::<Instant>::new(RankType::Basic),
+            places,
+            by_rows,
+        ),
         Function::DenseRank => {
-            see_none(heap, &Rank::<Instant>::new(RankType::Dense), places, by_rows)
+            see_none(
+                heap,
+                &Rank::<Instant>::new(RankType::Dense),
+                places,
+                by_rows,
+            )
         }
         Function::RowNumber => see_none(heap, &RowNumber::<Instant>::new(), places, by_rows),
         Function::PercentRank | Function::CumeDist => see_nothing(heap, places),
