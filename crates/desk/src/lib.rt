@@ -4,6 +4,9 @@
 pub mod answer;
 mod by_rows;
 mod cells;
+mod given;
+mod job;
 pub mod message;
 mod parts;
 pub mod refusal;
+mod text;

@@ -1,5 +1,11 @@
 // What a window function is asked of one partition.
-use crate::cells::CellLists;
+ghost use Rattle.std.specs.Prelude.{◌≡◌, ◌++◌, IfErr, IfOk, MatchResult, OnOk, length, map, replicate};
+ghost use Rattle.column.specs.Refusal.{column_refusal};
+ghost use Rattle.partition.specs.Table.{input};
+ghost use Rattle.desk.specs.Parts.{IsPart, held, order_value, peer_frames, row_frames, turn_frames, turn_groups};
+ghost use Rattle.desk.specs.Stops.{Refuses};
+
+use crate::cells::{CellLists, cells_of};
 use crate::refusal::Refusal;
 use column::column::Column;
 use column::kind::{Instant, Kind};
@@ -10,27 +16,60 @@ use partition::whole::WholePartition;
 use std::alloc::{AllocError, Global};
 use turns::layout::Turn;
 
+// The number of an order as a value.
+pub(crate) fn order_value(order: usize) -> Instant
+    ensures { result ≡ order_value order }
+{
+    Instant(i64::try_from(order).unwrap_or(i64::MAX))
+}
+
+// The numbers of the rows' order.
+fn orders_of(heap: Global, turns: &[Turn]) -> Result<Vec<Instant>, AllocError>
+    ensures { IfOk result (λ v. v.items ≡ map (λ t. order_value t.order) turns.now) }
+{
+    turns
+        .iter()
+        .map(|turn| order_value(turn.order))
+        .collect(heap)
+}
+
 // The peer groups of a partition's rows: each its first row, and the row after its last.
-fn groups_of<'a>(
-    heap: Global,
-    orders: &Column<'_, Instant>,
-) -> Result<Vec<(usize, usize)>, Refusal<'a>> {
-    let mut groups = vec![in heap; (0usize, 0usize); orders.values.len()]?;
-    let count = match peer_groups(orders, groups.as_mut_slice()) {
-        Ok(count) => count,
-        Err(fault) => return Err(Refusal::Call(fault)),
+fn groups_of<'a>(heap: Global, turns: &[Turn]) -> Result<Vec<(usize, usize)>, Refusal<'a>>
+    ensures { MatchResult result (λ v. v.items ≡ turn_groups turns.now) (Refuses (column_refusal (length turns.now) (length turns.now))) }
+{
+    let orders = orders_of(heap, turns)?;
+    let marks = vec![in heap; true; turns.len()]?;
+    let column = Column {
+        values: orders.as_slice(),
+        marks: marks.as_slice(),
     };
-    groups.truncate(count);
-    Ok(groups)
+    let mut groups = vec![in heap; (0usize, 0usize); turns.len()]?;
+    match peer_groups(&column, groups.as_mut_slice()) {
+        Ok(count) => {
+            groups.truncate(count);
+            Ok(groups)
+        }
+        Err(fault) => Err(Refusal::Call(fault)),
+    }
+}
+
+// So many rows with frames that end there.
+fn push_frames(frames: &mut Vec<(usize, usize)>, end: usize, count: usize) -> Result<(), AllocError>
+    ensures { OnOk result (frames.new.items ≡ frames.old.items ++ replicate count (0, end)) }
+{
+    for _ in 0..count {
+        frames.push((0, end))?;
+    }
+    Ok(())
 }
 
 // SQL's default: the rows up to the last peer of each; without an order all rows are peers.
-fn peer_frames(heap: Global, groups: &[(usize, usize)]) -> Result<Vec<(usize, usize)>, AllocError> {
+fn peer_frames(heap: Global, groups: &[(usize, usize)]) -> Result<Vec<(usize, usize)>, AllocError>
+    ensures { IfOk result (λ v. v.items ≡ peer_frames groups.now) }
+{
     let mut frames = Vec::new(heap);
     for (start, end) in groups {
-        for _ in *start..*end {
-            frames.push((0, *end))?;
-        }
+        push_frames(&mut frames, *end, end.saturating_sub(*start))?;
     }
     Ok(frames)
 }
@@ -39,49 +78,29 @@ fn row_frames(
     heap: Global,
     frame: RowsFrame,
     rows: usize,
-) -> Result<Vec<(usize, usize)>, AllocError> {
+) -> Result<Vec<(usize, usize)>, AllocError>
+    ensures { IfOk result (λ v. v.items ≡ row_frames frame rows) }
+{
     (0..rows)
         .map(|row| frame_of(frame, row, rows))
         .collect(heap)
 }
 
-// The frame of each row of a partition with these peer groups.
-fn frames_of(
+// The frame of each row of a partition.
+fn frames_of<'a>(
     heap: Global,
     frame: Option<RowsFrame>,
-    groups: &[(usize, usize)],
-    rows: usize,
-) -> Result<Vec<(usize, usize)>, AllocError> {
-    match frame {
-        Some(frame) => row_frames(heap, frame, rows),
-        None => peer_frames(heap, groups),
-    }
-}
-
-// The number of a row's order as a value.
-pub(crate) fn order_of(turn: Turn) -> Instant {
-    Instant(i64::try_from(turn.order).unwrap_or(i64::MAX))
-}
-
-// The numbers of the rows' order.
-fn orders_of(heap: Global, turns: &[Turn]) -> Result<Vec<Instant>, AllocError> {
-    turns.iter().map(|turn| order_of(*turn)).collect(heap)
-}
-
-// The cells of a partition's rows, of those of all rows.
-fn cells_of<K: FieldValue>(
-    heap: Global,
     turns: &[Turn],
-    cells: &[Option<K>],
-) -> Result<CellLists<K>, AllocError> {
-    let mut values = Vec::new(heap);
-    let mut marks = Vec::new(heap);
-    for turn in turns {
-        let cell = cells.get(turn.row).copied().flatten();
-        values.push(cell.unwrap_or(K::filler()))?;
-        marks.push(cell.is_some())?;
+) -> Result<Vec<(usize, usize)>, Refusal<'a>>
+    ensures { MatchResult result (λ v. v.items ≡ turn_frames frame turns.now) (Refuses (column_refusal (length turns.now) (length turns.now))) }
+{
+    match frame {
+        Some(frame) => Ok(row_frames(heap, frame, turns.len())?),
+        None => {
+            let groups = groups_of(heap, turns)?;
+            Ok(peer_frames(heap, groups.as_slice())?)
+        }
     }
-    Ok(CellLists { values, marks })
 }
 
 // A partition as evaluators are handed it.
@@ -93,7 +112,9 @@ pub(crate) struct Part<K> {
 }
 
 impl<K: Kind> Part<K> {
-    pub fn as_partition(&self) -> WholePartition<'_, K> {
+    pub fn as_partition(&self) -> WholePartition<'_, K>
+        ensures { input result ≡ held self.now }
+    {
         WholePartition {
             column: self.cells.as_column(),
             frames: self.frames.as_slice(),
@@ -116,26 +137,18 @@ pub(crate) fn part_of<'a, K: FieldValue>(
     cells: &[Option<K>],
     frame: Option<RowsFrame>,
     wants: Wants,
-) -> Result<Part<K>, Refusal<'a>> {
+) -> Result<Part<K>, Refusal<'a>>
+    ensures part { IfOk result (λ p. IsPart wants.frames wants.groups frame cells.now turns.now (held p)) }
+    ensures refused { IfErr result (Refuses (column_refusal (length turns.now) (length turns.now))) }
+{
     let cells = cells_of(heap, turns, cells)?;
     let mut frames = Vec::new(heap);
-    let mut groups = Vec::new(heap);
-    if wants.groups || (wants.frames && frame.is_none()) {
-        let orders = orders_of(heap, turns)?;
-        let marks = vec![in heap; true; orders.len()]?;
-        groups = groups_of(
-            heap,
-            &Column {
-                values: orders.as_slice(),
-                marks: marks.as_slice(),
-            },
-        )?;
-    }
     if wants.frames {
-        frames = frames_of(heap, frame, groups.as_slice(), turns.len())?;
+        frames = frames_of(heap, frame, turns)?;
     }
-    if !wants.groups {
-        groups.clear();
+    let mut groups = Vec::new(heap);
+    if wants.groups {
+        groups = groups_of(heap, turns)?;
     }
     Ok(Part {
         cells,

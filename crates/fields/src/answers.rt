@@ -1,5 +1,5 @@
 // What evaluators answer, written as fields.
-ghost use Rattle.std.specs.Prelude.{◌≡◌, ℕ, List, IfOk, IfErr, OnOk, decimal, vec_len};
+ghost use Rattle.std.specs.Prelude.{◌≡◌, ℕ, true, List, IfOk, IfErr, OnOk, decimal, vec_len};
 ghost use Rattle.fields.specs.Answers.{Stops, Wrote, cell_text, row_answers};
 ghost use Rattle.fields.specs.declared.answers.Stop.TheVariants.{Memory};
 ghost use Rattle.partition.specs.Table.{input, row_count, whole_refusal};
@@ -45,7 +45,9 @@ pub trait Answer<K: Kind>: Copy {
         ensures answers { IfOk result (λ v. v.items ≡ row_answers (E.Evaluator.meaning evaluator.now) E.Evaluator.WANTS_FRAMES (input rows.now)) }
         ensures refused { IfErr result (Stops (whole_refusal K.Kind.same E.Evaluator.WANTS_FRAMES E.Evaluator.WANTS_GROUPS (input rows.now) (row_count (input rows.now)))) };
 
-    fn is_same(&self, other: &Self) -> bool;
+    // No answer differs from itself.
+    fn is_same(&self, other: &Self) -> bool
+        ensures { self.now ≡ other.now → result ≡ true };
 
     // The content of an answer's field, behind a text; that of NULL is empty.
     fn write(&self, heap: Global, out: &mut Vec<u8>) -> Result<(), AllocError>

@@ -1,0 +1,12 @@
+pub mod Fillers
+pub mod Grouping
+pub mod Handing
+pub mod Pairs
+pub mod Parted
+pub mod Picked
+pub mod Placing
+pub mod Reading
+pub mod Refining
+pub mod Refused
+pub mod Turning
+pub mod Writing

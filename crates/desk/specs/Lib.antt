@@ -1,0 +1,9 @@
+pub mod Answers
+pub mod Cells
+pub mod Columns
+pub mod Functions
+pub mod Parts
+pub mod Rows
+pub mod Runs
+pub mod Stops
+pub mod Texts
