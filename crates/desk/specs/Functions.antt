@@ -52,6 +52,10 @@ laid j turns = record { records = vec_items j.table.now.records; name = new_name
 abbrev pub Answers : {V A : Type 0} → (A → List ℕ → Type 0) → Meaning V A → Bool → Option RowsFrame → List (Option V) → Laid → Answered → Type 0
 Answers writes m wants frame cells laid a = Written writes laid.turns (answers_in_turn m wants frame cells laid.turns) laid.records laid.name (vec_items a.text)
 
+-- the same, of an evaluator that is asked for no row alone
+abbrev pub AnswersWhole : {V A : Type 0} → (A → List ℕ → Type 0) → Meaning V A → Bool → Option RowsFrame → List (Option V) → Laid → Answered → Type 0
+AnswersWhole writes m wants frame cells laid a = Answers writes m wants frame cells laid a × (a.told ≡ None)
+
 -- what runs took, where rows were asked one by one
 abbrev pub Tells : {V A S : Type 0} → (S → Meaning V A) → S → Bool → Option RowsFrame → List (Option V) → Laid → Option ℕ → Option Told → Type 0
 Tells meaning e wants frame cells laid None told = told ≡ None
@@ -108,8 +112,8 @@ writes_number a t = t ≡ decimal a
 abbrev pub OrderBy : Function → Asked → List (Option Instant) → Laid → Answered → Type 0
 OrderBy functions.Rank asked cells laid a = AnswersRows writes_number (rank_meaning same_instant) (new_rank Basic) false None cells laid asked.by_rows a
 OrderBy functions.DenseRank asked cells laid a = AnswersRows writes_number (rank_meaning same_instant) (new_rank Dense) false None cells laid asked.by_rows a
-OrderBy functions.PercentRank asked cells laid a = Answers writes_fraction (fraction_meaning percent_rank same_instant) false None cells laid a
-OrderBy functions.CumeDist asked cells laid a = Answers writes_fraction (fraction_meaning cume_dist same_instant) false None cells laid a
+OrderBy functions.PercentRank asked cells laid a = AnswersWhole writes_fraction (fraction_meaning percent_rank same_instant) false None cells laid a
+OrderBy functions.CumeDist asked cells laid a = AnswersWhole writes_fraction (fraction_meaning cume_dist same_instant) false None cells laid a
 OrderBy functions.RowNumber asked cells laid a = AnswersRows writes_number row_number_meaning new_row_number false None cells laid asked.by_rows a
 OrderBy functions.Lag asked cells laid a = ⊥
 OrderBy functions.Lead asked cells laid a = ⊥

@@ -2,6 +2,7 @@ pub mod Answers
 pub mod Cells
 pub mod Columns
 pub mod Functions
+pub mod Messages
 pub mod Parts
 pub mod Rows
 pub mod Runs

@@ -3,7 +3,7 @@ ghost use Rattle.std.specs.Prelude.{◌≡◌, false, true, None, IfOk, length, 
 ghost use Rattle.table.specs.Contents.{bytes_of};
 ghost use Rattle.options.specs.Functions.{is_valued};
 ghost use Rattle.desk.specs.Columns.{Read, new_name, sheet_of};
-ghost use Rattle.desk.specs.Functions.{Answers, AnswersOrder, AnswersRows, AnswersSheet, AnswersTable, AnswersValues, DefaultIs, OrderBy, Shifts, ValuedBy, laid};
+ghost use Rattle.desk.specs.Functions.{AnswersOrder, AnswersRows, AnswersSheet, AnswersTable, AnswersValues, AnswersWhole, DefaultIs, OrderBy, Shifts, ValuedBy, laid};
 ghost use Rattle.desk.specs.Texts.{AllRows, Written};
 
 use crate::by_rows::Told;
@@ -63,7 +63,7 @@ impl<'a, 'c, 't, 'b> Job<'a, 'c, 't, 'b> {
     where
         E::Answer: Answer<K>,
         requires { AllRows self.now.table.now.records.items given.now.turns.now }
-        ensures { IfOk result (Answers E.Answer.writes (E.Evaluator.meaning evaluator.now) E.Evaluator.WANTS_FRAMES given.now.frame given.now.cells.now (laid self.now given.now.turns.now)) }
+        ensures { IfOk result (AnswersWhole E.Answer.writes (E.Evaluator.meaning evaluator.now) E.Evaluator.WANTS_FRAMES given.now.frame given.now.cells.now (laid self.now given.now.turns.now)) }
     {
         let answers = given.whole(evaluator)?;
         let text = self.write::<K, E::Answer>(given, answers.as_slice())?;

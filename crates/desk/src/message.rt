@@ -1,4 +1,7 @@
 // The message of a refusal, with its place in the file.
+ghost use Rattle.std.specs.Prelude.{IfOk, string_bytes};
+ghost use Rattle.desk.specs.Messages.{Message};
+
 use crate::refusal::Refusal;
 use std::alloc::{AllocError, Global};
 use table::columns::field_place;
@@ -9,7 +12,9 @@ pub fn message(
     file: &str,
     text: &[u8],
     refusal: &Refusal<'_>,
-) -> Result<String, AllocError> {
+) -> Result<String, AllocError>
+    ensures { IfOk result (λ s. Message file.now text.now refusal.now (string_bytes s)) }
+{
     match *refusal {
         Refusal::Unread(unread) => format!(in heap; "{file}:{unread}"),
         Refusal::Column { .. } => format!(in heap; "{file}:1:1: {refusal}"),

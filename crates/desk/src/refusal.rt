@@ -1,4 +1,5 @@
-ghost use Rattle.std.specs.Prelude.{◌≡◌};
+ghost use Rattle.std.specs.Prelude.{◌≡◌, Some};
+ghost use Rattle.desk.specs.Messages.{refusal_text};
 ghost use Rattle.desk.specs.declared.refusal.Refusal.TheVariants.{Memory};
 
 use column::fault::Fault;
@@ -47,6 +48,8 @@ impl<'a, E: Into<AllocError>> From<E> for Refusal<'a> {
 
 // What is wrong, without its place.
 impl<'a> fmt::Display for Refusal<'a> {
+    ghost output = { λ r. Some (refusal_text r) };
+
     fn fmt<W: fmt::Write>(&self, f: &mut fmt::Formatter<W>) -> fmt::Result {
         match *self {
             Refusal::Memory => f.write_str("not enough memory"),
