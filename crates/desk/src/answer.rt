@@ -213,7 +213,10 @@ impl<'a, 'c, 't, 'b> Job<'a, 'c, 't, 'b> {
     }
 }
 
-fn bytes_of_all<'b>(heap: Global, contents: &'b [Content<'_>]) -> Result<Vec<&'b [u8]>, AllocError>
+pub(crate) fn bytes_of_all<'b>(
+    heap: Global,
+    contents: &'b [Content<'_>],
+) -> Result<Vec<&'b [u8]>, AllocError>
     ensures { IfOk result (λ v. map (λ n. n.now) v.items ≡ map bytes_of contents.now) }
 {
     contents.iter().map(|name| name.bytes()).collect(heap)

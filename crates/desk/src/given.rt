@@ -20,7 +20,7 @@ use std::alloc::{AllocError, Global};
 use turns::layout::Turn;
 
 // The rows of each partition.
-fn parts_of<'t>(heap: Global, turns: &'t [Turn]) -> Result<Vec<&'t [Turn]>, AllocError>
+pub(crate) fn parts_of<'t>(heap: Global, turns: &'t [Turn]) -> Result<Vec<&'t [Turn]>, AllocError>
     ensures { IfOk result (λ v. map (λ p. p.now) v.items ≡ parted turns.now) }
 {
     turns

@@ -44,7 +44,7 @@ impl<'a, 'c, 't, 'b> Job<'a, 'c, 't, 'b> {
     }
 
     // The contents of the column of a name, below the header.
-    fn contents(&self, name: &'a str) -> Result<Vec<Content<'t>>, Refusal<'a>>
+    pub fn contents(&self, name: &'a str) -> Result<Vec<Content<'t>>, Refusal<'a>>
         requires { Read self.now }
         ensures contents { IfOk result (λ v. ColumnNamed (sheet_of self.now) name.now v.items) }
         ensures long { IfOk result (λ v. vec_len v ≡ vec_len self.now.table.now.records - 1) }

@@ -87,7 +87,7 @@ fn row_frames(
 }
 
 // The frame of each row of a partition.
-fn frames_of<'a>(
+pub(crate) fn frames_of<'a>(
     heap: Global,
     frame: Option<RowsFrame>,
     turns: &[Turn],

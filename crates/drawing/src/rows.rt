@@ -128,9 +128,9 @@ pub fn labels(heap: Global, turns: &[Turn], span: Span) -> Result<Vec<String>, A
 
 // The columns that are drawn: the values, and the answers.
 #[derive(Clone, Copy)]
-pub struct Columns<'c> {
-    pub values: &'c [Content<'c>],
-    pub answers: &'c [Content<'c>],
+pub struct Columns<'c, 't> {
+    pub values: &'c [Content<'t>],
+    pub answers: &'c [Content<'t>],
 }
 
 fn source_at(sources: &[Source], place: usize) -> Source
@@ -148,7 +148,7 @@ fn shown_at(shown: &[(usize, usize)], place: usize) -> Option<(usize, usize)>
 // The row at a place of a partition.
 fn drawn_row<'c>(
     label: &'c str,
-    columns: Columns<'c>,
+    columns: Columns<'c, '_>,
     seen: &Seen,
     span: Span,
     place: usize,
@@ -170,7 +170,7 @@ pub fn drawn_rows<'c>(
     heap: Global,
     turns: &[Turn],
     labels: &'c [String],
-    columns: Columns<'c>,
+    columns: Columns<'c, '_>,
     seen: &Seen,
     span: Span,
 ) -> Result<Vec<Row<'c>>, AllocError>
