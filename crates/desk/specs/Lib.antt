@@ -4,6 +4,7 @@ pub mod Columns
 pub mod Functions
 pub mod Messages
 pub mod Parts
+pub mod Refusals
 pub mod Rows
 pub mod Runs
 pub mod Stops
