@@ -6,6 +6,7 @@ pub mod Parted
 pub mod Picked
 pub mod Placing
 pub mod Reading
+pub mod Reasons
 pub mod Refining
 pub mod Refused
 pub mod Turning

@@ -1,5 +1,5 @@
 -- The columns of a table that was read. Assumes nothing.
-use Rattle.std.specs.Prelude.{◌≡◌, ◌⊎◌, ℕ, List, [], ◌∷◌, map, length, min, Some, None, Option}
+use Rattle.std.specs.Prelude.{◌≡◌, ℕ, List, [], ◌∷◌, map, length, min, Some, None, Option}
 use Rattle.std.specs.Borrow.{Bor}
 use Rattle.std.specs.Vec.{vec_items}
 use Rattle.options.specs.declared.asked.Asked.{Asked}
@@ -13,7 +13,7 @@ use Rattle.table.specs.Names.{IsColumn, NotColumn}
 use Rattle.table.specs.Tables.{IsTable}
 use Rattle.desk.specs.declared.job.Job.{Job}
 use Rattle.desk.specs.declared.refusal.Refusal.{Refusal}
-use Rattle.desk.specs.declared.refusal.Refusal.TheVariants.{Column, Memory}
+use Rattle.desk.specs.declared.refusal.Refusal.TheVariants.{Column}
 
 -- a table: its records and fields, and the names of its columns
 pub record Sheet : Type 0 where
@@ -46,10 +46,6 @@ pub record ColumnNamed (s : Sheet) (name : List ℕ) (contents : List Content) :
 -- a name is told to be of no one column
 abbrev pub NotFound : List (Bor (List ℕ)) → Bor (List ℕ) → Refusal → Type 0
 NotFound names name r = (why : NoColumn) × (r ≡ Column name why) × NotColumn names name.now why
-
--- why there are no contents of a name's column: want of memory, or no such column
-abbrev pub NoContents : List (Bor (List ℕ)) → Bor (List ℕ) → Refusal → Type 0
-NoContents names name r = (r ≡ Memory) ⊎ NotFound names name r
 
 -- numbers of rows, with each named column refined by a relation, one after the other
 abbrev pub RefinedBy : (List ℕ → List Content → List ℕ → Type 0) → Sheet → List ℕ → List (Bor (List ℕ)) → List ℕ → Type 0

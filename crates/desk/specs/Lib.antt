@@ -5,6 +5,7 @@ pub mod Functions
 pub mod Messages
 pub mod Parts
 pub mod Pictures
+pub mod Refusals
 pub mod Rows
 pub mod Runs
 pub mod Stops

@@ -1,9 +1,10 @@
 // The table of a file with the answers as its last column.
-ghost use Rattle.std.specs.Prelude.{◌≡◌, false, true, None, IfOk, length, map};
+ghost use Rattle.std.specs.Prelude.{◌≡◌, false, true, None, IfErr, IfOk, length, map};
 ghost use Rattle.table.specs.Contents.{bytes_of};
 ghost use Rattle.options.specs.Functions.{is_valued};
 ghost use Rattle.desk.specs.Columns.{Read, new_name, sheet_of};
 ghost use Rattle.desk.specs.Functions.{AnswersOrder, AnswersRows, AnswersSheet, AnswersTable, AnswersValues, AnswersWhole, DefaultIs, OrderBy, Shifts, ValuedBy, laid};
+ghost use Rattle.desk.specs.Refusals.{Unanswered, Why};
 ghost use Rattle.desk.specs.Texts.{AllRows, Written};
 
 use crate::by_rows::Told;
@@ -63,7 +64,8 @@ impl<'a, 'c, 't, 'b> Job<'a, 'c, 't, 'b> {
     where
         E::Answer: Answer<K>,
         requires { AllRows self.now.table.now.records.items given.now.turns.now }
-        ensures { IfOk result (AnswersWhole E.Answer.writes (E.Evaluator.meaning evaluator.now) E.Evaluator.WANTS_FRAMES given.now.frame given.now.cells.now (laid self.now given.now.turns.now)) }
+        ensures answers { IfOk result (AnswersWhole E.Answer.writes (E.Evaluator.meaning evaluator.now) E.Evaluator.WANTS_FRAMES given.now.frame given.now.cells.now (laid self.now given.now.turns.now)) }
+        ensures refused { IfErr result (Why (sheet_of self.now) self.now.asked.now) }
     {
         let answers = given.whole(evaluator)?;
         let text = self.write::<K, E::Answer>(given, answers.as_slice())?;
@@ -71,6 +73,7 @@ impl<'a, 'c, 't, 'b> Job<'a, 'c, 't, 'b> {
     }
 
     // Those of one that has it, and by rows where that is asked.
+    #[tactic(auto, using(crate::proofs::Reasons::why_ran))]
     fn answer_rows<K: FieldValue, E: RowEvaluator<Value = K> + Drop>(
         &self,
         given: &Given<'_, K>,
@@ -79,7 +82,8 @@ impl<'a, 'c, 't, 'b> Job<'a, 'c, 't, 'b> {
     where
         E::Answer: Answer<K>,
         requires { AllRows self.now.table.now.records.items given.now.turns.now }
-        ensures { IfOk result (AnswersRows E.Answer.writes E.Evaluator.meaning evaluator.now E.Evaluator.WANTS_FRAMES given.now.frame given.now.cells.now (laid self.now given.now.turns.now) self.now.asked.now.by_rows) }
+        ensures answers { IfOk result (AnswersRows E.Answer.writes E.Evaluator.meaning evaluator.now E.Evaluator.WANTS_FRAMES given.now.frame given.now.cells.now (laid self.now given.now.turns.now) self.now.asked.now.by_rows) }
+        ensures refused { IfErr result (Why (sheet_of self.now) self.now.asked.now) }
     {
         let answers = given.whole(evaluator)?;
         let told = match self.asked.by_rows {
@@ -92,7 +96,8 @@ impl<'a, 'c, 't, 'b> Job<'a, 'c, 't, 'b> {
 
     // The default of LAG and LEAD; an empty text is NULL, as an empty field is.
     fn default<K: FieldValue>(&self) -> Result<Option<K>, Refusal<'a>>
-        ensures { IfOk result (DefaultIs K.FieldValue.says self.now.asked.now.default) }
+        ensures answers { IfOk result (DefaultIs K.FieldValue.says self.now.asked.now.default) }
+        ensures refused { IfErr result (Why (sheet_of self.now) self.now.asked.now) }
     {
         match self.asked.default {
             None => Ok(None),
@@ -114,7 +119,8 @@ impl<'a, 'c, 't, 'b> Job<'a, 'c, 't, 'b> {
     ) -> Result<Answered, Refusal<'a>>
         requires rows { AllRows self.now.table.now.records.items given.now.turns.now }
         requires frame { given.now.frame ≡ self.now.asked.now.frame }
-        ensures { IfOk result (Shifts K.FieldValue.says K.FieldValue.text kind self.now.asked.now given.now.cells.now (laid self.now given.now.turns.now)) }
+        ensures answers { IfOk result (Shifts K.FieldValue.says K.FieldValue.text kind self.now.asked.now given.now.cells.now (laid self.now given.now.turns.now)) }
+        ensures refused { IfErr result (Why (sheet_of self.now) self.now.asked.now) }
     {
         let default = self.default::<K>()?;
         let asked = self.asked;
@@ -129,7 +135,8 @@ impl<'a, 'c, 't, 'b> Job<'a, 'c, 't, 'b> {
         requires rows { AllRows self.now.table.now.records.items given.now.turns.now }
         requires frame { given.now.frame ≡ self.now.asked.now.frame }
         requires function { is_valued self.now.asked.now.function ≡ true }
-        ensures { IfOk result (AnswersValues K.FieldValue.says K.FieldValue.text self.now.asked.now.function self.now.asked.now given.now.cells.now (laid self.now given.now.turns.now)) }
+        ensures answers { IfOk result (AnswersValues K.FieldValue.says K.FieldValue.text self.now.asked.now.function self.now.asked.now given.now.cells.now (laid self.now given.now.turns.now)) }
+        ensures refused { IfErr result (Why (sheet_of self.now) self.now.asked.now) }
     {
         let asked = self.asked;
         match asked.function {
@@ -145,11 +152,13 @@ impl<'a, 'c, 't, 'b> Job<'a, 'c, 't, 'b> {
     }
 
     // A function of the values of the column that is asked for.
+    #[tactic(auto, using(crate::proofs::Reasons::why_found))]
     fn valued<K: FieldValue>(&self, turns: &[Turn]) -> Result<Answered, Refusal<'a>>
         requires read { Read self.now }
         requires rows { AllRows self.now.table.now.records.items turns.now }
         requires function { is_valued self.now.asked.now.function ≡ true }
-        ensures { IfOk result (ValuedBy K.FieldValue.says K.FieldValue.text (sheet_of self.now) self.now.asked.now (laid self.now turns.now)) }
+        ensures answers { IfOk result (ValuedBy K.FieldValue.says K.FieldValue.text (sheet_of self.now) self.now.asked.now (laid self.now turns.now)) }
+        ensures refused { IfErr result (Why (sheet_of self.now) self.now.asked.now) }
     {
         let asked = self.asked;
         let name = asked.of.ok_or(Refusal::NoValues)?;
@@ -169,7 +178,8 @@ impl<'a, 'c, 't, 'b> Job<'a, 'c, 't, 'b> {
         requires rows { AllRows self.now.table.now.records.items given.now.turns.now }
         requires frame { given.now.frame ≡ None }
         requires function { is_valued self.now.asked.now.function ≡ false }
-        ensures { IfOk result (OrderBy self.now.asked.now.function self.now.asked.now given.now.cells.now (laid self.now given.now.turns.now)) }
+        ensures answers { IfOk result (OrderBy self.now.asked.now.function self.now.asked.now given.now.cells.now (laid self.now given.now.turns.now)) }
+        ensures refused { IfErr result (Why (sheet_of self.now) self.now.asked.now) }
     {
         match self.asked.function {
             Function::Rank => self.answer_rows(given, &Rank::<Instant>::new(RankType::Basic)),
@@ -184,7 +194,8 @@ impl<'a, 'c, 't, 'b> Job<'a, 'c, 't, 'b> {
     fn ranked(&self, layout: &Layout) -> Result<Answered, Refusal<'a>>
         requires rows { AllRows self.now.table.now.records.items layout.now.turns.items }
         requires function { is_valued self.now.asked.now.function ≡ false }
-        ensures { IfOk result (AnswersOrder self.now.asked.now.function self.now.asked.now layout.now.orders.items (laid self.now layout.now.turns.items)) }
+        ensures answers { IfOk result (AnswersOrder self.now.asked.now.function self.now.asked.now layout.now.orders.items (laid self.now layout.now.turns.items)) }
+        ensures refused { IfErr result (Why (sheet_of self.now) self.now.asked.now) }
     {
         let cells = order_cells(self.heap, layout.orders.as_slice())?;
         self.of_order(&Given {
@@ -197,7 +208,8 @@ impl<'a, 'c, 't, 'b> Job<'a, 'c, 't, 'b> {
 
     fn answer(&self) -> Result<Answered, Refusal<'a>>
         requires { Read self.now }
-        ensures { IfOk result (AnswersSheet (sheet_of self.now) self.now.asked.now) }
+        ensures answers { IfOk result (AnswersSheet (sheet_of self.now) self.now.asked.now) }
+        ensures refused { IfErr result (Why (sheet_of self.now) self.now.asked.now) }
     {
         let layout = self.layout()?;
         if !self.asked.function.is_valued() {
@@ -228,7 +240,8 @@ pub fn answer<'a, 'c, 't>(
     text: &'t [u8],
     asked: &'c Asked<'a>,
 ) -> Result<Answered, Refusal<'a>>
-    ensures { IfOk result (AnswersTable text.now asked.now) }
+    ensures answers { IfOk result (AnswersTable text.now asked.now) }
+    ensures refused { IfErr result (Unanswered text.now asked.now) }
 {
     let table = match read(heap, text) {
         Ok(table) => table,

@@ -1,9 +1,10 @@
 // The same answers by runs that are shown some rows more at a time.
-ghost use Rattle.std.specs.Prelude.{◌≡◌, IfOk};
+ghost use Rattle.std.specs.Prelude.{◌≡◌, IfErr, IfOk};
 ghost use Rattle.evaluator.specs.Meaning.{partition};
 ghost use Rattle.fields.specs.Answers.{row_answers};
 ghost use Rattle.moving.specs.Moving.{from_zero};
 ghost use Rattle.partition.specs.Table.{input};
+ghost use Rattle.desk.specs.Refusals.{Ran};
 ghost use Rattle.desk.specs.Runs.{Took, most, with_run};
 
 use crate::refusal::Refusal;
@@ -52,6 +53,7 @@ pub(crate) fn answer_by_rows<'a, E: RowEvaluator + Drop>(
 ) -> Result<(Vec<E::Answer>, Told), Refusal<'a>>
     ensures answers { IfOk result (λ r. r.0.items ≡ row_answers (E.Evaluator.meaning evaluator.now) E.Evaluator.WANTS_FRAMES (input rows.now)) }
     ensures took { IfOk result (λ r. Took E.Evaluator.meaning evaluator.now (partition E.Evaluator.WANTS_FRAMES (input rows.now)) (from_zero rows.now.frames.now) step told r.1) }
+    ensures refused { IfErr result Ran }
 {
     match answer_moving(heap, evaluator, rows, step) {
         Ok(

@@ -1,9 +1,10 @@
 // The answers of all rows in turn, partition by partition.
-ghost use Rattle.std.specs.Prelude.{◌≡◌, IfErr, IfOk, length, map, vec_len};
+ghost use Rattle.std.specs.Prelude.{◌≡◌, ◌<◌, true, None, IfErr, IfOk, length, map, vec_len};
 ghost use Rattle.std.specs.List.{flat_map};
 ghost use Rattle.desk.specs.Answers.{answers_in_turn, part_answers, parted};
 ghost use Rattle.desk.specs.Functions.{order_cells};
 ghost use Rattle.desk.specs.Parts.{part};
+ghost use Rattle.desk.specs.Refusals.{Ran};
 ghost use Rattle.desk.specs.Runs.{TookAll, TookPart, none_told};
 ghost use Rattle.desk.specs.Stops.{OneRefuses, PartRefuses};
 
@@ -97,6 +98,7 @@ impl<K: FieldValue> Given<'_, K> {
     }
 
     // The answers of the rows of a partition, asked of a run, and what runs took so far.
+    #[tactic(auto, using(crate::proofs::Reasons::refuses_ran))]
     fn ask_part<'a, E: RowEvaluator<Value = K> + Drop>(
         &self,
         evaluator: &E,
@@ -106,6 +108,7 @@ impl<K: FieldValue> Given<'_, K> {
     ) -> Result<(Vec<E::Answer>, Told), Refusal<'a>>
         ensures answers { IfOk result (λ r. r.0.items ≡ part_answers (E.Evaluator.meaning evaluator.now) E.Evaluator.WANTS_FRAMES self.now.frame self.now.cells.now turns.now) }
         ensures took { IfOk result (λ r. TookPart E.Evaluator.meaning evaluator.now (part E.Evaluator.WANTS_FRAMES self.now.frame self.now.cells.now) step told turns.now r.1) }
+        ensures refused { IfErr result Ran }
     {
         let wants = Wants {
             frames: E::WANTS_FRAMES,
@@ -124,6 +127,7 @@ impl<K: FieldValue> Given<'_, K> {
     ) -> Result<(Vec<E::Answer>, Told), Refusal<'a>>
         ensures answers { IfOk result (λ r. r.0.items ≡ flat_map (part_answers (E.Evaluator.meaning evaluator.now) E.Evaluator.WANTS_FRAMES self.now.frame self.now.cells.now) (map (λ p. p.now) parts.now)) }
         ensures took { IfOk result (λ r. TookAll E.Evaluator.meaning evaluator.now (part E.Evaluator.WANTS_FRAMES self.now.frame self.now.cells.now) step none_told (map (λ p. p.now) parts.now) r.1) }
+        ensures refused { IfErr result Ran }
     {
         let mut told = Told { held: 0, early: 0 };
         let mut answers = Vec::new(self.heap);
@@ -143,6 +147,7 @@ impl<K: FieldValue> Given<'_, K> {
     ) -> Result<(Vec<E::Answer>, Told), Refusal<'a>>
         ensures answers { IfOk result (λ r. r.0.items ≡ answers_in_turn (E.Evaluator.meaning evaluator.now) E.Evaluator.WANTS_FRAMES self.now.frame self.now.cells.now self.now.turns.now) }
         ensures took { IfOk result (λ r. TookAll E.Evaluator.meaning evaluator.now (part E.Evaluator.WANTS_FRAMES self.now.frame self.now.cells.now) step none_told (parted self.now.turns.now) r.1) }
+        ensures refused { IfErr result Ran }
     {
         let parts = parts_of(self.heap, self.turns)?;
         self.ask_parts(evaluator, parts.as_slice(), step)
@@ -157,7 +162,9 @@ impl<K: FieldValue> Given<'_, K> {
     ) -> Result<Told, Refusal<'a>>
     where
         E::Answer: Answer<K>,
-        ensures { IfOk result (TookAll E.Evaluator.meaning evaluator.now (part E.Evaluator.WANTS_FRAMES self.now.frame self.now.cells.now) step none_told (parted self.now.turns.now)) }
+        requires { whole.now ≡ answers_in_turn (E.Evaluator.meaning evaluator.now) E.Evaluator.WANTS_FRAMES self.now.frame self.now.cells.now self.now.turns.now }
+        ensures took { IfOk result (TookAll E.Evaluator.meaning evaluator.now (part E.Evaluator.WANTS_FRAMES self.now.frame self.now.cells.now) step none_told (parted self.now.turns.now)) }
+        ensures refused { IfErr result Ran }
     {
         let (answers, told) = self.by_rows(evaluator, step)?;
         if let Some(place) = first_difference::<K, E::Answer>(whole, answers.as_slice()) {
@@ -170,9 +177,27 @@ impl<K: FieldValue> Given<'_, K> {
     }
 }
 
-// The first place at which two lists of answers differ.
-fn first_difference<K: FieldValue, A: Answer<K>>(whole: &[A], by_rows: &[A]) -> Option<usize> {
-    whole.iter().zip(by_rows).position(|(a, b)| !a.is_same(b))
+// Whether two lists have the same answer at a place.
+fn same_at<K: FieldValue, A: Answer<K>>(whole: &[A], by_rows: &[A], place: usize) -> bool
+    requires { place < length whole.now }
+    ensures { whole.now ≡ by_rows.now → result ≡ true }
+{
+    match by_rows.get(place) {
+        Some(answer) => whole[place].is_same(answer),
+        None => false,
+    }
+}
+
+// The first place at which a list of answers differs from another.
+fn first_difference<K: FieldValue, A: Answer<K>>(whole: &[A], by_rows: &[A]) -> Option<usize>
+    ensures { whole.now ≡ by_rows.now → result ≡ None }
+{
+    for place in 0..whole.len() {
+        if !same_at::<K, A>(whole, by_rows, place) {
+            return Some(place);
+        }
+    }
+    None
 }
 
 // The numbers of the rows' order as cells.

@@ -2,7 +2,8 @@
 ghost use Rattle.std.specs.Prelude.{◌≡◌, ◌-◌, ℕ, List, IfErr, IfOk, MatchResult, vec_len};
 ghost use Rattle.table.specs.Names.{IsColumn};
 ghost use Rattle.turns.specs.Numbers.{Alike, Ordered};
-ghost use Rattle.desk.specs.Columns.{ColumnNamed, NoContents, NotFound, Read, RefinedBy, new_name, sheet_of};
+ghost use Rattle.desk.specs.Columns.{ColumnNamed, NotFound, Read, RefinedBy, new_name, sheet_of};
+ghost use Rattle.desk.specs.Refusals.{Why};
 ghost use Rattle.desk.specs.Rows.{InTurn, unnumbered};
 ghost use Rattle.desk.specs.Texts.{AllRows};
 
@@ -44,11 +45,12 @@ impl<'a, 'c, 't, 'b> Job<'a, 'c, 't, 'b> {
     }
 
     // The contents of the column of a name, below the header.
+    #[tactic(auto, using(crate::proofs::Reasons::why_found))]
     pub fn contents(&self, name: &'a str) -> Result<Vec<Content<'t>>, Refusal<'a>>
         requires { Read self.now }
         ensures contents { IfOk result (λ v. ColumnNamed (sheet_of self.now) name.now v.items) }
         ensures long { IfOk result (λ v. vec_len v ≡ vec_len self.now.table.now.records - 1) }
-        ensures refused { IfErr result (NoContents self.now.names.now name.entry) }
+        ensures refused { IfErr result (Why (sheet_of self.now) self.now.asked.now) }
     {
         let column = self.find(name)?;
         Ok(contents(self.heap, self.table, column)?)
@@ -64,7 +66,8 @@ impl<'a, 'c, 't, 'b> Job<'a, 'c, 't, 'b> {
     // The number of each row's partition, by row.
     fn partitions(&self) -> Result<Vec<usize>, Refusal<'a>>
         requires { Read self.now }
-        ensures { IfOk result (λ v. RefinedBy Alike (sheet_of self.now) (unnumbered (sheet_of self.now)) self.now.asked.now.partition_by.items v.items) }
+        ensures numbers { IfOk result (λ v. RefinedBy Alike (sheet_of self.now) (unnumbered (sheet_of self.now)) self.now.asked.now.partition_by.items v.items) }
+        ensures refused { IfErr result (Why (sheet_of self.now) self.now.asked.now) }
     {
         let mut partitions = self.unnumbered()?;
         for name in &self.asked.partition_by {
@@ -77,7 +80,8 @@ impl<'a, 'c, 't, 'b> Job<'a, 'c, 't, 'b> {
     // The number of each row's order, by row.
     fn orders(&self) -> Result<Vec<usize>, Refusal<'a>>
         requires { Read self.now }
-        ensures { IfOk result (λ v. RefinedBy Ordered (sheet_of self.now) (unnumbered (sheet_of self.now)) self.now.asked.now.order_by.items v.items) }
+        ensures numbers { IfOk result (λ v. RefinedBy Ordered (sheet_of self.now) (unnumbered (sheet_of self.now)) self.now.asked.now.order_by.items v.items) }
+        ensures refused { IfErr result (Why (sheet_of self.now) self.now.asked.now) }
     {
         let mut orders = self.unnumbered()?;
         for name in &self.asked.order_by {
@@ -91,6 +95,7 @@ impl<'a, 'c, 't, 'b> Job<'a, 'c, 't, 'b> {
     pub fn layout(&self) -> Result<Layout, Refusal<'a>>
         requires { Read self.now }
         ensures turns { IfOk result (λ l. (partitions : List ℕ) × InTurn (sheet_of self.now) self.now.asked.now partitions l.orders.items l.turns.items) }
+        ensures refused { IfErr result (Why (sheet_of self.now) self.now.asked.now) }
         ensures rows { IfOk result (λ l. AllRows self.now.table.now.records.items l.turns.items) }
     {
         let partitions = self.partitions()?;
