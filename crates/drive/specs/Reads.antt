@@ -1,10 +1,10 @@
 -- The texts that calls are read from.
-use Rattle.std.specs.Prelude.{◌≡◌, ◌≢◌, ◌<◌, ◌≤◌, ◌⊎◌, ℕ, List, [], ◌∷◌, ◌++◌, codes, decimal, length, slice_index, vec_items, Option, Some, None}
+use Rattle.std.specs.Prelude.{◌≡◌, ◌≢◌, ◌<◌, ◌≤◌, ◌⊎◌, ℕ, List, [], ◌∷◌, Bool, ◌++◌, codes, decimal, length, slice_index, vec_items, Option, Some, None}
 use Rattle.column.specs.Refusal.{row_limit}
 use Rattle.lines.specs.Fits.{ListFits, SpanFits}
 use Rattle.lines.specs.Back.{EndsField}
 use Rattle.lines.specs.Reads.{ReadsColumn, ReadsSpan, ReadsUnsigned}
-use Rattle.lines.specs.Texts.{column_text, list_text, span_text}
+use Rattle.lines.specs.Texts.{column_text, list_text, mark_text, span_text}
 use Rattle.partition.specs.Table.{Input}
 use Rattle.drive.specs.declared.handed.Lengths.{Lengths}
 use Rattle.drive.specs.declared.ops.Request.{Request}
@@ -66,3 +66,11 @@ ReadsStep Reads bs rest s = (outcome : List ℕ) × (bs ≡ s.text.now ++ outcom
 abbrev pub ReadsSteps : {K : Type 0} → (List ℕ → K → Type 0) → List ℕ → List (Step K) → Type 0
 ReadsSteps Reads bs [] = bs ≡ []
 ReadsSteps Reads bs (s ∷ steps) = (text : List ℕ) × (rest : List ℕ) × (bs ≡ codes " " ++ (text ++ rest)) × ReadsStep Reads text rest s × ReadsSteps Reads rest steps
+
+-- the row limit by its letter
+abbrev pub ReadsLimit : List ℕ → Type 0
+ReadsLimit bs = (limit : List ℕ) × (bs ≡ codes "L" ++ limit) × ReadsUnsigned limit row_limit
+
+-- whether a run is set to frames that begin at 0, and the row limit
+abbrev pub ReadsSetting : List ℕ → Bool → Type 0
+ReadsSetting bs from_zero = (limit : List ℕ) × (bs ≡ codes "Z" ++ (mark_text from_zero ++ (codes " " ++ limit))) × ReadsLimit limit

@@ -1,5 +1,5 @@
 // A run, with the calls that a line makes on it.
-ghost use Rattle.std.specs.Prelude.{◌≡◌, length, Some, IfErr, IfOk, IfSome, string_bytes, vec_len};
+ghost use Rattle.std.specs.Prelude.{◌≡◌, length, Some, IfOk, IfSome, MatchResult, string_bytes, vec_len};
 ghost use Rattle.drive.specs.Calls.{Stands, AllStand};
 ghost use Rattle.drive.specs.Outcomes.{IsAccepted, ending_text, op_text, outcome_text};
 ghost use Rattle.drive.specs.Runs.{EndsIn, RunTold, TellsOp};
@@ -62,7 +62,7 @@ enum OpOutcome<A> {
 impl<A> OpOutcome<A> {
     // Behind an accepted finish an operation cannot be read.
     fn check_next<K>(&self, next: Option<&Step<'_, K>>) -> Result<(), Bad>
-        ensures { IfErr result (λ bad. IsAccepted self.now × IfSome next.entry (λ s. bad ≡ s.now.start)) }
+        ensures { MatchResult result (λ _. IsAccepted self.now → IfSome next.entry (λ _. ⊥)) (λ bad. IsAccepted self.now × IfSome next.entry (λ s. bad ≡ s.now.start)) }
     {
         match (self, next) {
             (OpOutcome::OfFinish(Ending(Some(Ok(_)))), Some(step)) => Err(step.start),

@@ -5,7 +5,7 @@ use Rattle.std.proofs.Math.Seq.{take-add}
 use Rattle.lines.specs.Cursors.{Onward, ahead, passed}
 use Rattle.lines.specs.declared.cursor.Cursor.{Cursor}
 
-slice_join : {X : Type 0} (xs : List X) (a b c : ℕ) → a ≤ b → b ≤ c → slice_range xs a c ≡ slice_range xs a b ++ slice_range xs b c
+pub slice_join : {X : Type 0} (xs : List X) (a b c : ℕ) → a ≤ b → b ≤ c → slice_range xs a c ≡ slice_range xs a b ++ slice_range xs b c
 slice_join xs a b c h k =
     ap (λ n. take n (drop a xs)) (omega arith)
     ∙ take-add (b - a) (c - b) (drop a xs)
