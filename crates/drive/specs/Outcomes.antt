@@ -6,6 +6,8 @@ use Rattle.column.specs.declared.fault.Fault.TheVariants.{Unanswered}
 use Rattle.replay.specs.declared.calls.Reply.TheVariants.{Answer, Done, Mark, NotTaken}
 use Rattle.replay.specs.History.{Outcome, Event, accepted, total_of}
 use Rattle.lines.specs.Texts.{list_text}
+use Rattle.drive.specs.declared.runs.OpOutcome.{OpOutcome}
+use Rattle.drive.specs.declared.runs.OpOutcome.TheVariants.{OfCall, OfFinish}
 
 -- a refusal by its number and place
 abbrev pub refused_text : ℕ → ℕ → List ℕ
@@ -37,6 +39,15 @@ abbrev pub ending_text : Option (Result ℕ Fault) → List ℕ
 ending_text (Some (Ok rows)) = codes "ok:" ++ decimal rows
 ending_text (Some (Err f)) = refusal_text f
 ending_text None = codes "no:open"
+
+-- of an operation: of its call, or of an attempt to finish
+abbrev pub op_text : {A : Type 0} → (A → List ℕ) → OpOutcome A → List ℕ
+op_text answer_text (OfCall told) = outcome_text answer_text told.0
+op_text answer_text (OfFinish ending) = ending_text ending.0
+
+-- an accepted finish
+abbrev pub IsAccepted : {A : Type 0} → OpOutcome A → Type 0
+IsAccepted x = (ending : _) × (rows : ℕ) × (x ≡ OfFinish ending) × (ending.0 ≡ Some (Ok rows))
 
 -- what finishing ends in where this row is the next, and this the total of the accepted close
 abbrev pub ending_at : ℕ → Option ℕ → Option (Result ℕ Fault)

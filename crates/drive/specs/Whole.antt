@@ -1,16 +1,19 @@
 -- What a call on a whole partition is handed, and what it tells.
-use Rattle.std.specs.Prelude.{ℕ, min, Bool, List, map, length, vec_items, Ok, Err, Result}
+use Rattle.std.specs.Prelude.{◌≡◌, ℕ, min, Bool, List, ◌++◌, codes, map, length, string_bytes, vec_items, Ok, Err, MatchResult, Result, String}
 use Rattle.std.specs.List.{range_with_len}
 use Rattle.column.specs.declared.fault.Fault.{Fault}
 use Rattle.column.specs.Cells.{cells}
 use Rattle.column.specs.Refusal.{or_else, column_refusal}
 use Rattle.lines.specs.Texts.{span_text}
+use Rattle.lines.specs.declared.stop.Stop.{Stop}
+use Rattle.lines.specs.declared.stop.Stop.TheVariants.{Memory}
 use Rattle.partition.specs.Peers.{peers}
 use Rattle.partition.specs.Table.{Input, row_count, whole_refusal, places_refusal}
 use Rattle.evaluator.specs.Meaning.{Meaning, partition}
 use Rattle.drive.specs.declared.handed.Handed.{Handed}
 use Rattle.drive.specs.declared.handed.Lengths.{Lengths}
-use Rattle.drive.specs.Outcomes.{refusal_text, told_text}
+use Rattle.drive.specs.Outcomes.{line_text, refusal_text, told_text}
+use Rattle.drive.specs.Reads.{HandedText}
 
 -- the partition that is handed in
 abbrev pub handed_input : {V : Type 0} → Handed V → Input V
@@ -32,6 +35,10 @@ whole_text same answer_text wants_frames wants_groups m x slots = told_text answ
 abbrev pub made_text : {E V A : Type 0} → (V → V → Bool) → (A → List ℕ) → Bool → Bool → (E → Meaning V A) → Result E Fault → Input V → ℕ → List ℕ
 made_text same answer_text wants_frames wants_groups meaning (Ok e) x slots = whole_text same answer_text wants_frames wants_groups (meaning e) x slots
 made_text same answer_text wants_frames wants_groups meaning (Err f) x slots = refusal_text f
+
+-- of a line from here on, with the text of a call that is handed this: it and the outcome, or there is no memory
+abbrev pub TellsWhole : {E V A Z : Type 0} → (V → V → Bool) → (V → List ℕ) → (V → Type 0) → (A → List ℕ) → (Lengths → List ℕ → Type 0) → Bool → Bool → (E → Meaning V A) → Result E Fault → List ℕ → List ℕ → Result (String Z) Stop → Type 0
+TellsWhole {V} same one Fits answer_text Sized wants_frames wants_groups meaning made line ahead r = (x : Input V) (l : Lengths) (text lengths : List ℕ) → HandedText one Fits x text → Sized l lengths → ahead ≡ text ++ (codes " O" ++ lengths) → MatchResult r (λ s. string_bytes s ≡ line_text line (made_text same answer_text wants_frames wants_groups meaning made x (slot_count l))) (λ stop. stop ≡ Memory)
 
 -- the text of a call for the peer groups of a column with these lists: the check that fails first, or else the groups
 abbrev pub groups_text : {V : Type 0} → (V → V → Bool) → List V → List Bool → ℕ → List ℕ

@@ -1,12 +1,12 @@
 // A line with its outcome.
-ghost use Rattle.std.specs.Prelude.{◌≡◌, ℕ, List, ◌++◌, codes, IfOk, IfErr, MatchResult, string_bytes};
-ghost use Rattle.lines.specs.Cursors.{ahead};
-ghost use Rattle.lines.specs.declared.stop.Stop.TheVariants.{Memory};
-ghost use Rattle.partition.specs.Table.{Input};
-ghost use Rattle.drive.specs.declared.handed.Lengths.{Lengths};
-ghost use Rattle.drive.specs.Outcomes.{IsComment, TellsRefusal, line_text, refusal_text};
-ghost use Rattle.drive.specs.Reads.{HandedText};
-ghost use Rattle.drive.specs.Whole.{made_text, slot_count};
+ghost use Rattle.std.specs.Prelude.{◌≡◌, ◌≢◌, ℕ, List, IfOk, OnOk, Ok, Err, MatchResult, string_bytes};
+ghost use Rattle.lines.specs.Cursors.{Onward, ahead, passed};
+ghost use Rattle.lines.specs.declared.stop.Stop.TheVariants.{Unread, Memory};
+ghost use Rattle.drive.specs.declared.line.Form.TheVariants.{Whole, Mirror, Run};
+ghost use Rattle.drive.specs.Outcomes.{IsComment, TellsRefusal, line_text};
+ghost use Rattle.drive.specs.Reads.{ReadsLimit, ReadsSetting};
+ghost use Rattle.drive.specs.Runs.{TellsRun};
+ghost use Rattle.drive.specs.Whole.{TellsWhole};
 
 use crate::answer::Answer;
 use crate::groups::answer_groups;
@@ -77,10 +77,25 @@ fn read_form(cursor: &mut Cursor<'_>) -> Result<Form, Bad> {
 }
 
 // The row limit that a run states is the one that it has.
-fn read_limit(cursor: &mut Cursor<'_>) -> Result<(), Bad> {
+fn read_limit(cursor: &mut Cursor<'_>) -> Result<(), Bad>
+    ensures reads { OnOk result (ReadsLimit (passed cursor.old cursor.new)) }
+    ensures onward { Onward cursor.old cursor.new }
+{
     cursor.expect(b'L')?;
     cursor.number_in(ROW_LIMIT..=ROW_LIMIT)?;
     Ok(())
+}
+
+// Whether a run is set to frames that begin at 0, and its limit behind that.
+fn read_setting(cursor: &mut Cursor<'_>) -> Result<bool, Bad>
+    ensures reads { IfOk result (λ from_zero. ReadsSetting (passed cursor.old cursor.new) from_zero) }
+    ensures onward { Onward cursor.old cursor.new }
+{
+    cursor.expect(b'Z')?;
+    let from_zero = bool::read(cursor)?;
+    cursor.expect(b' ')?;
+    read_limit(cursor)?;
+    Ok(from_zero)
 }
 
 fn whole_line<E: Evaluator + Drop>(
@@ -92,7 +107,7 @@ where
     E::Value: Value,
     E::Answer: Answer<E::Value>,
     ensures refused { IfOk result (λ s. (outcome : List ℕ) × (string_bytes s ≡ line_text line.now.text.now outcome) × TellsRefusal made outcome) }
-    ensures back { (x : Input E.Value) (l : Lengths) (text lengths : List ℕ) → HandedText E.Value.Show.text E.Value.Text.fits x text → E.Answer.Answer.sized l lengths → ahead cursor.old ≡ text ++ (codes " O" ++ lengths) → MatchResult result (λ s. string_bytes s ≡ line_text line.now.text.now (made_text E.Value.Kind.same E.Answer.Show.text E.Evaluator.WANTS_FRAMES E.Evaluator.WANTS_GROUPS E.Evaluator.meaning made x (slot_count l))) (λ stop. stop ≡ Memory) }
+    ensures back { TellsWhole E.Value.Kind.same E.Value.Show.text E.Value.Text.fits E.Answer.Show.text E.Answer.Answer.sized E.Evaluator.WANTS_FRAMES E.Evaluator.WANTS_GROUPS E.Evaluator.meaning made line.now.text.now (ahead cursor.old) result }
 {
     let outcome = answer_whole(line.heap, cursor, made)?;
     line.answered(outcome.as_str())
@@ -107,13 +122,10 @@ fn run_line<E: RowEvaluator + Drop>(
 where
     E::Value: Value,
     E::Answer: Answer<E::Value>,
-    ensures { IfOk result (λ s. IfErr made (λ f. string_bytes s ≡ line_text line.now.text.now (refusal_text f))) }
+    ensures { TellsRun E.Value.Text.reads E.Answer.Show.text E.Evaluator.meaning E.Evaluator.WANTS_FRAMES made line.now.text.now cursor.old result }
 {
     let heap = line.heap;
-    cursor.expect(b'Z')?;
-    let from_zero = bool::read(cursor)?;
-    cursor.expect(b' ')?;
-    read_limit(cursor)?;
+    let from_zero = read_setting(cursor)?;
     let head = cursor.since(0);
     let steps = read_steps::<E::Value>(heap, cursor)?;
     match made {
@@ -134,6 +146,8 @@ fn answer_evaluator<E: Evaluator + Drop>(
 where
     E::Value: Value,
     E::Answer: Answer<E::Value>,
+    ensures whole { line.now.form ≡ Whole → TellsWhole E.Value.Kind.same E.Value.Show.text E.Value.Text.fits E.Answer.Show.text E.Answer.Answer.sized E.Evaluator.WANTS_FRAMES E.Evaluator.WANTS_GROUPS E.Evaluator.meaning made line.now.text.now (ahead cursor.old) result }
+    ensures other { line.now.form ≢ Whole → result ≡ Err (Unread line.now.words) }
 {
     match line.form {
         Form::Whole => whole_line(line, cursor, made),
@@ -150,11 +164,21 @@ fn answer_rows<E: RowEvaluator + Drop>(
 where
     E::Value: Value,
     E::Answer: Answer<E::Value>,
+    ensures whole { line.now.form ≡ Whole → TellsWhole E.Value.Kind.same E.Value.Show.text E.Value.Text.fits E.Answer.Show.text E.Answer.Answer.sized E.Evaluator.WANTS_FRAMES E.Evaluator.WANTS_GROUPS E.Evaluator.meaning made line.now.text.now (ahead cursor.old) result }
+    ensures run { line.now.form ≡ Run → TellsRun E.Value.Text.reads E.Answer.Show.text E.Evaluator.meaning E.Evaluator.WANTS_FRAMES made line.now.text.now cursor.old result }
+    ensures other { line.now.form ≢ Whole → line.now.form ≢ Run → result ≡ Err (Unread line.now.words) }
 {
     match line.form {
         Form::Run => run_line(line, cursor, made),
         _ => answer_evaluator(line, cursor, made),
     }
+}
+
+// The mirror, of an evaluator that is not refused.
+fn mirror_of<E: MirrorEvaluator + Drop>(made: Result<E, Fault>) -> Result<E, Fault>
+    ensures { MatchResult made (λ e. result ≡ Ok (E.MirrorEvaluator.mirrored e)) (λ f. result ≡ Err f) }
+{
+    made.map(|evaluator| evaluator.mirror())
 }
 
 // Those of one that also has a mirror.
@@ -166,9 +190,12 @@ fn answer_mirrored<E: RowEvaluator + MirrorEvaluator + Drop>(
 where
     E::Value: Value,
     E::Answer: Answer<E::Value>,
+    ensures whole { line.now.form ≡ Whole → TellsWhole E.Value.Kind.same E.Value.Show.text E.Value.Text.fits E.Answer.Show.text E.Answer.Answer.sized E.Evaluator.WANTS_FRAMES E.Evaluator.WANTS_GROUPS E.Evaluator.meaning made line.now.text.now (ahead cursor.old) result }
+    ensures mirror { line.now.form ≡ Mirror → TellsWhole E.Value.Kind.same E.Value.Show.text E.Value.Text.fits E.Answer.Show.text E.Answer.Answer.sized E.Evaluator.WANTS_FRAMES E.Evaluator.WANTS_GROUPS (λ e. E.Evaluator.meaning (E.MirrorEvaluator.mirrored e)) made line.now.text.now (ahead cursor.old) result }
+    ensures run { line.now.form ≡ Run → TellsRun E.Value.Text.reads E.Answer.Show.text E.Evaluator.meaning E.Evaluator.WANTS_FRAMES made line.now.text.now cursor.old result }
 {
     match line.form {
-        Form::Mirror => whole_line(line, cursor, made.map(|evaluator| evaluator.mirror())),
+        Form::Mirror => whole_line(line, cursor, mirror_of(made)),
         _ => answer_rows(line, cursor, made),
     }
 }

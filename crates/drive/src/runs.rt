@@ -1,18 +1,17 @@
 // A run, with the calls that a line makes on it.
-ghost use Rattle.std.specs.Prelude.{◌≡◌, List, length, Some, IfOk, vec_len};
+ghost use Rattle.std.specs.Prelude.{◌≡◌, length, Some, IfOk, IfSome, MatchResult, string_bytes, vec_len};
 ghost use Rattle.drive.specs.Calls.{Stands, AllStand};
-ghost use Rattle.drive.specs.Outcomes.{ending, ending_text, outcome_text};
-ghost use Rattle.replay.specs.History.{Replayed, history};
-ghost use Rattle.replay.specs.declared.calls.Entry.{Entry};
+ghost use Rattle.drive.specs.Outcomes.{IsAccepted, ending_text, op_text, outcome_text};
+ghost use Rattle.drive.specs.Runs.{EndsIn, RunTold, TellsOp};
 
 use crate::ops::{Op, Request, Step};
 use crate::outcome::Refusal;
 use column::column::Window;
 use column::fault::Fault;
 use column::kind::Kind;
-use lines::stop::Stop;
+use lines::stop::{Bad, Stop};
 use lines::text::{Show, Shown};
-use replay::calls::{Call, Reply};
+use replay::calls::{Call, Entry, Reply};
 use replay::replay::{Played, replay};
 use run::rows::RowEvaluator;
 use run::run::Run;
@@ -49,6 +48,36 @@ impl<A: Show> fmt::Display for Told<A> {
             Ok(Reply::Done) => f.write_str("ok"),
             Ok(Reply::Mark(mark)) => write!(f, "{mark}"),
             Ok(Reply::NotTaken) => f.write_str("no:closed"),
+        }
+    }
+}
+
+// What an operation ends in: its call, or an attempt to finish.
+#[derive(Clone, Copy)]
+enum OpOutcome<A> {
+    OfCall(Told<A>),
+    OfFinish(Ending),
+}
+
+impl<A> OpOutcome<A> {
+    // Behind an accepted finish an operation cannot be read.
+    fn check_next<K>(&self, next: Option<&Step<'_, K>>) -> Result<(), Bad>
+        ensures { MatchResult result (λ _. IsAccepted self.now → IfSome next.entry (λ _. ⊥)) (λ bad. IsAccepted self.now × IfSome next.entry (λ s. bad ≡ s.now.start)) }
+    {
+        match (self, next) {
+            (OpOutcome::OfFinish(Ending(Some(Ok(_)))), Some(step)) => Err(step.start),
+            _ => Ok(()),
+        }
+    }
+}
+
+impl<A: Show> fmt::Display for OpOutcome<A> {
+    ghost output = { λ x. Some (op_text A.Show.text x) };
+
+    fn fmt<W: fmt::Write>(&self, f: &mut fmt::Formatter<W>) -> fmt::Result {
+        match self {
+            OpOutcome::OfCall(told) => write!(f, "{told}"),
+            OpOutcome::OfFinish(ending) => write!(f, "{ending}"),
         }
     }
 }
@@ -93,7 +122,7 @@ fn finish<E: RowEvaluator + Drop>(
     from_zero: bool,
     calls: &[Call<'_, E::Value>],
 ) -> Result<Ending, AllocError>
-    ensures { IfOk result (λ e. (entries : List (Entry E.Answer)) × Replayed E.Evaluator.meaning evaluator.now E.Evaluator.WANTS_FRAMES from_zero (history calls.now entries) × (e.0 ≡ ending (history calls.now entries))) }
+    ensures { IfOk result (λ e. EndsIn E.Evaluator.meaning evaluator.now E.Evaluator.WANTS_FRAMES from_zero calls.now e.0) }
 {
     let Played { run, entries } = replay(heap, evaluator, from_zero, calls)?;
     drop(entries);
@@ -106,6 +135,25 @@ fn finish<E: RowEvaluator + Drop>(
     }
 }
 
+// The outcome of an operation behind these calls, where this was noted of its own.
+fn outcome_of<E: RowEvaluator + Drop>(
+    heap: Global,
+    evaluator: &E,
+    from_zero: bool,
+    before: &[Call<'_, E::Value>],
+    op: &Op<E::Value>,
+    entry: &Entry<E::Answer>,
+) -> Result<OpOutcome<E::Answer>, AllocError>
+where
+    E::Answer: Show,
+    ensures { IfOk result (λ x. TellsOp E.Answer.Show.text E.Evaluator.meaning evaluator.now E.Evaluator.WANTS_FRAMES from_zero before.now op.now entry.now.outcome (op_text E.Answer.Show.text x)) }
+{
+    match op {
+        Op::Finish => Ok(OpOutcome::OfFinish(finish(heap, evaluator, from_zero, before)?)),
+        _ => Ok(OpOutcome::OfCall(Told(entry.outcome))),
+    }
+}
+
 // The operations, each with its outcome; after an accepted finish there is none.
 pub(crate) fn answer_run<E: RowEvaluator + Drop>(
     heap: Global,
@@ -115,22 +163,17 @@ pub(crate) fn answer_run<E: RowEvaluator + Drop>(
 ) -> Result<String, Stop>
 where
     E::Answer: Show,
+    ensures { IfOk result (λ s. RunTold E.Answer.Show.text E.Evaluator.meaning evaluator.now E.Evaluator.WANTS_FRAMES from_zero steps.now (string_bytes s)) }
 {
     let calls = calls_of(heap, steps)?;
     let played = replay(heap, evaluator, from_zero, calls.as_slice())?;
     let mut text = String::new(heap);
     for (i, (step, entry)) in steps.iter().zip(played.entries.iter()).enumerate() {
+        let before = &calls.as_slice()[..i];
+        let outcome = outcome_of(heap, evaluator, from_zero, before, &step.op, entry)?;
         let op = step.text;
-        match step.op {
-            Op::Finish => {
-                let ending = finish(heap, evaluator, from_zero, &calls.as_slice()[..i])?;
-                if let (Ending(Some(Ok(_))), Some(next)) = (ending, steps.get(i + 1)) {
-                    return Err(Stop::Unread(next.start));
-                }
-                write!(text, " {op}>{ending}")?;
-            }
-            _ => write!(text, " {op}>{}", Told(entry.outcome))?,
-        }
+        write!(text, " {op}>{outcome}")?;
+        outcome.check_next(steps.get(i + 1))?;
     }
     Ok(text)
 }

@@ -1,4 +1,4 @@
--- A list that is shown is read back.
+-- A list that is shown is read back, and one that is read is what the text shows.
 use Rattle.std.proofs.Common.{◌≡◌, ℕ, Bool, true, false, T, List, [], ◌∷◌, ◌++◌, codes, slice_index, Result, Ok, sym, ap, ◌∙◌, subst, arith}
 use Rattle.std.specs.Prelude.{⊤}
 use Rattle.std.proofs.lemmas.List.{append_assoc}
@@ -6,6 +6,7 @@ use Rattle.std.proofs.lemmas.Option.{get_or_from_slice_get}
 use Rattle.lines.specs.Back.{Ends, ReadsBack}
 use Rattle.lines.specs.Cursors.{ahead}
 use Rattle.lines.specs.Fits.{ListFits}
+use Rattle.lines.specs.Reads.{ReadsItems}
 use Rattle.lines.specs.Texts.{joined, rest_text}
 use Rattle.lines.specs.declared.cursor.Cursor.{Cursor}
 use Rattle.lines.specs.declared.stop.Bad.{Bad}
@@ -39,3 +40,10 @@ module _ {V : Type 0} (Fits : V → Type 0) (text : V → List ℕ) where
 pub marks_fit : (marks : List Bool) → ListFits (λ _. ⊤) marks
 marks_fit [] = tt
 marks_fit (m ∷ ms) = (tt, marks_fit ms)
+
+-- items before which one more was read, and a comma
+pub item_added : {V : Type 0} (Reads : List ℕ → V → Type 0) (before first behind text : List ℕ) (items pushed : List V) (x y : V) (ys : List V) → text ≡ (before ++ first) ++ codes "," → pushed ≡ items ++ (x ∷ []) → ReadsItems Reads (before ++ (first ++ (codes "," ++ behind))) (items ++ (x ∷ (y ∷ ys))) → ReadsItems Reads (text ++ behind) (pushed ++ (y ∷ ys))
+item_added Reads before first behind text items pushed x y ys is push h =
+    let bytes : text ++ behind ≡ before ++ (first ++ (codes "," ++ behind)) = ap (λ t. t ++ behind) is ∙ append_assoc (before ++ first) (codes ",") behind ∙ append_assoc before first (codes "," ++ behind) in
+    let list : pushed ++ (y ∷ ys) ≡ items ++ (x ∷ (y ∷ ys)) = ap (λ l. l ++ (y ∷ ys)) push ∙ append_assoc items (x ∷ []) (y ∷ ys) in
+    subst (λ t. ReadsItems Reads t (pushed ++ (y ∷ ys))) (sym bytes) (subst (ReadsItems Reads (before ++ (first ++ (codes "," ++ behind)))) (sym list) h)

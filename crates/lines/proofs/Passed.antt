@@ -5,18 +5,18 @@ use Rattle.std.proofs.Math.Seq.{take-add}
 use Rattle.lines.specs.Cursors.{Onward, ahead, passed}
 use Rattle.lines.specs.declared.cursor.Cursor.{Cursor}
 
-slice_join : {X : Type 0} (xs : List X) (a b c : ℕ) → a ≤ b → b ≤ c → slice_range xs a c ≡ slice_range xs a b ++ slice_range xs b c
+pub slice_join : {X : Type 0} (xs : List X) (a b c : ℕ) → a ≤ b → b ≤ c → slice_range xs a c ≡ slice_range xs a b ++ slice_range xs b c
 slice_join xs a b c h k =
     ap (λ n. take n (drop a xs)) (omega arith)
     ∙ take-add (b - a) (c - b) (drop a xs)
     ∙ ap (λ l. take (b - a) (drop a xs) ++ take (c - b) l) (drop-drop (b - a) a xs ∙ ap (λ n. drop n xs) (omega arith))
 
-passed_join : (a b c : Cursor) → Onward a b → Onward b c → passed a c ≡ passed a b ++ passed b c
+pub passed_join : (a b c : Cursor) → Onward a b → Onward b c → passed a c ≡ passed a b ++ passed b c
 passed_join a b c h k =
     slice_join a.text.now a.at b.at c.at h.1 k.1
     ∙ ap (λ l. passed a b ++ slice_range l b.at c.at) (sym h.0)
 
-further : (a b c : Cursor) → Onward a b → Onward b c → Onward a c
+pub further : (a b c : Cursor) → Onward a b → Onward b c → Onward a c
 further a b c h k =
     let p : a.at ≤ b.at = h.1 in
     let q : b.at ≤ c.at = k.1 in
@@ -46,3 +46,10 @@ enclosed a b c d e f opening middle closing h k l m n o p q =
     led a b f opening h (further b d f (further b c d k l) (further d e f m n)) o
     ∙ ap (λ t. opening ++ t) (parted b c d f middle k l (further d e f m n) p
     ∙ ap (λ t. passed b c ++ (middle ++ t)) (passed_join d e f m n ∙ ap (λ t. passed d e ++ t) q))
+
+-- two parts and a closing text
+pub closed : (a b c d : Cursor) (closing : List ℕ) → Onward a b → Onward b c → Onward c d → passed c d ≡ closing → passed a d ≡ (passed a b ++ passed b c) ++ closing
+closed a b c d closing h k l e =
+    passed_join a c d (further a b c h k) l
+    ∙ ap (λ t. t ++ passed c d) (passed_join a b c h k)
+    ∙ ap (λ t. (passed a b ++ passed b c) ++ t) e

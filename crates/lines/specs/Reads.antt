@@ -1,5 +1,5 @@
 -- The texts that are read as values.
-use Rattle.std.specs.Prelude.{◌≡◌, ℕ, ℤ, Bool, List, ◌++◌, Some, None, codes, Option}
+use Rattle.std.specs.Prelude.{◌≡◌, ◌⊎◌, ℕ, ℤ, Bool, List, [], ◌∷◌, ◌++◌, Some, None, codes, Option}
 use Rattle.std.specs.Str.Parse.{IsNumeral, digits_value, signed_digits_value, without_leading_plus, without_leading_sign}
 use Rattle.column.specs.declared.kind.Instant.{Instant}
 use Rattle.column.specs.declared.kind.Pseudonym.{Pseudonym}
@@ -51,3 +51,21 @@ ReadsMark bs mark = bs ≡ mark_text mark
 -- the start, a minus sign and the end
 abbrev pub ReadsSpan : List ℕ → ℕ × ℕ → Type 0
 ReadsSpan bs x = (start : List ℕ) × (end : List ℕ) × (bs ≡ start ++ (codes "-" ++ end)) × ReadsUnsigned start x.0 × ReadsUnsigned end x.1
+
+-- one item, or an item, a comma and the others
+abbrev pub ReadsItems : {V : Type 0} → (List ℕ → V → Type 0) → List ℕ → List V → Type 0
+ReadsItems Reads bs [] = bs ≡ []
+ReadsItems Reads bs (x ∷ []) = Reads bs x
+ReadsItems Reads bs (x ∷ (y ∷ ys)) = (first : List ℕ) × (others : List ℕ) × (bs ≡ first ++ (codes "," ++ others)) × Reads first x × ReadsItems Reads others (y ∷ ys)
+
+-- the items in brackets
+abbrev pub ReadsList : {V : Type 0} → (List ℕ → V → Type 0) → List ℕ → List V → Type 0
+ReadsList Reads bs xs = (items : List ℕ) × (bs ≡ codes "[" ++ (items ++ codes "]")) × ReadsItems Reads items xs
+
+-- a column's lists, with a byte between them
+abbrev pub ReadsColumn : {V : Type 0} → (List ℕ → V → Type 0) → ℕ → List ℕ → List V → List Bool → Type 0
+ReadsColumn Reads between bs values marks = (first : List ℕ) × (second : List ℕ) × (bs ≡ codes "V" ++ (first ++ (between ∷ (codes "M" ++ second)))) × ReadsList Reads first values × ReadsList ReadsMark second marks
+
+-- behind a letter a list of frames or groups, or `-` where there are none at all
+abbrev pub ReadsSpans : ℕ → List ℕ → List (ℕ × ℕ) → Type 0
+ReadsSpans letter bs spans = (text : List ℕ) × (bs ≡ letter ∷ text) × (ReadsList ReadsSpan text spans ⊎ ((text ≡ codes "-") × (spans ≡ [])))

@@ -1,6 +1,7 @@
-ghost use Rattle.std.specs.Prelude.{◌≡◌, ℕ, Bool, List, [], ◌∷◌, ◌++◌, codes, MatchResult};
-ghost use Rattle.lines.specs.Cursors.{Onward, ahead};
+ghost use Rattle.std.specs.Prelude.{◌≡◌, ℕ, Bool, List, [], ◌∷◌, ◌++◌, codes, IfOk, MatchResult};
+ghost use Rattle.lines.specs.Cursors.{Onward, ahead, passed};
 ghost use Rattle.lines.specs.Fits.{ListFits, SpanFits};
+ghost use Rattle.lines.specs.Reads.{ReadsColumn, ReadsSpans};
 ghost use Rattle.lines.specs.Texts.{column_text, list_text, span_text};
 ghost use Rattle.lines.specs.declared.stop.Stop.TheVariants.{Memory};
 
@@ -36,6 +37,7 @@ pub fn read_column<K: Text>(
     cursor: &mut Cursor<'_>,
     between: u8,
 ) -> Result<Lists<K>, Stop>
+    ensures reads { IfOk result (λ c. ReadsColumn K.Text.reads between (passed cursor.old cursor.new) c.values.items c.marks.items) }
     ensures back { (values : List K) (marks : List Bool) (rest : List ℕ) → ListFits K.Text.fits values → ahead cursor.old ≡ column_text K.Show.text between values marks ++ rest → MatchResult result (λ c. (c.values.items ≡ values) × (c.marks.items ≡ marks) × (ahead cursor.new ≡ rest)) (λ s. s ≡ Memory) }
     ensures onward { Onward cursor.old cursor.new }
 {
@@ -53,6 +55,7 @@ pub fn read_spans(
     cursor: &mut Cursor<'_>,
     letter: u8,
 ) -> Result<Vec<(usize, usize)>, Stop>
+    ensures reads { IfOk result (λ v. ReadsSpans letter (passed cursor.old cursor.new) v.items) }
     ensures back { (spans : List (ℕ × ℕ)) (rest : List ℕ) → ListFits SpanFits spans → ahead cursor.old ≡ (letter ∷ list_text span_text spans) ++ rest → MatchResult result (λ v. (v.items ≡ spans) × (ahead cursor.new ≡ rest)) (λ s. s ≡ Memory) }
     ensures absent { (rest : List ℕ) → ahead cursor.old ≡ letter ∷ (codes "-" ++ rest) → MatchResult result (λ v. (v.items ≡ []) × (ahead cursor.new ≡ rest)) (λ _. ⊥) }
     ensures onward { Onward cursor.old cursor.new }

@@ -1,7 +1,8 @@
-ghost use Rattle.std.specs.Prelude.{◌≡◌, ℕ, List, ◌++◌, MatchResult, Some};
-ghost use Rattle.lines.specs.Cursors.{Onward, ahead};
+ghost use Rattle.std.specs.Prelude.{◌≡◌, ℕ, List, ◌++◌, IfOk, MatchResult, Some};
+ghost use Rattle.lines.specs.Cursors.{Onward, ahead, passed};
 ghost use Rattle.lines.specs.Fits.{ListFits};
 ghost use Rattle.lines.specs.declared.stop.Stop.TheVariants.{Memory};
+ghost use Rattle.lines.specs.Reads.{ReadsList};
 ghost use Rattle.lines.specs.Texts.{list_text};
 
 use crate::cursor::Cursor;
@@ -12,6 +13,7 @@ use std::fmt;
 
 // `[x,y,..]`.
 pub fn read_list<T: Text>(heap: Global, cursor: &mut Cursor<'_>) -> Result<Vec<T>, Stop>
+    ensures reads { IfOk result (λ v. ReadsList T.Text.reads (passed cursor.old cursor.new) v.items) }
     ensures back { (xs : List T) (rest : List ℕ) → ListFits T.Text.fits xs → ahead cursor.old ≡ list_text T.Show.text xs ++ rest → MatchResult result (λ v. (v.items ≡ xs) × (ahead cursor.new ≡ rest)) (λ s. s ≡ Memory) }
     ensures onward { Onward cursor.old cursor.new }
 {

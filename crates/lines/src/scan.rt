@@ -149,6 +149,7 @@ impl<'a> Cursor<'a> {
         ensures text { IsCharBoundary self.old.text.now self.old.at → IsCharBoundary self.old.text.now self.new.at → result.now ≡ passed self.old self.new }
         ensures letters { (k : ℕ) → self.old.at + k < self.new.at → IsInRange 97 122 (slice_index self.old.text.now (self.old.at + k)) }
         ensures stops { self.new.at < length self.old.text.now → ¬ (IsInRange 97 122 (slice_index self.old.text.now self.new.at)) }
+        ensures utf8 { IsUtf8 self.old.text.now }
         ensures back { (bs rest : List ℕ) → IsWord bs → ahead self.old ≡ bs ++ rest → EndsWord rest → (result.now ≡ bs) × (ahead self.new ≡ rest) }
         ensures onward { Onward self.old self.new }
     {
