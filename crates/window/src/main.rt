@@ -2,17 +2,17 @@
 
 // The desk's program: `window FUNCTION [OPTIONS] [FILE]` writes the table of FILE, or of standard input, with the answers as its last column.
 use desk::answer::{Answered, answer};
+use desk::drawn::picture;
 use desk::message::message;
+use desk::undrawn::picture_message;
 use help::refusals::explanation;
 use help::topics::text as help_text;
 use options::asked::Asked;
-use drawing::drawing::drawing;
-use drawing::message::message as undrawn;
 use options::command::{Command, Drawing};
 use options::parse::parse;
 use replayed::script::replayed;
 use sessions::report::report;
-use std::io::Write;
+use std::io::{IsTerminal, Write};
 use std::process::ExitCode;
 use std::{env, fs, io};
 
@@ -37,6 +37,17 @@ fn read_file(rt: &HostRuntime, file: Option<&str>) -> io::Result<Option<String>>
     }
 }
 
+// From how many lines on a file is long enough for its user to be told what is done.
+const LONG: usize = 2_000_000;
+
+// A line for a user at a terminal who waits for a long file.
+fn tell_progress(rt: &HostRuntime, asked: &Asked<'_>, lines: usize, done: &str) -> io::Result<()> {
+    if asked.quiet || lines < LONG || !rt.stderr().is_terminal() {
+        return Ok(());
+    }
+    eprintln!(rt; "window: {lines} lines {done}")
+}
+
 fn write_answers(rt: &HostRuntime, quiet: bool, answered: &Answered) -> io::Result<()> {
     io::writer(rt).write_all(answered.text.as_slice())?;
     match answered.told {
@@ -59,8 +70,11 @@ fn run_answer(rt: &HostRuntime, asked: &Asked<'_>) -> io::Result<ExitCode> {
     };
     let heap = rt.alloc();
     let bytes = text.as_str().as_bytes();
+    let lines = bytes.iter().filter(|byte| **byte == b'\n').count();
+    tell_progress(rt, asked, lines, "read")?;
     match answer(heap, bytes, asked) {
         Ok(answered) => {
+            tell_progress(rt, asked, lines, "answered")?;
             write_answers(rt, asked.quiet, &answered)?;
             Ok(ExitCode::SUCCESS)
         }
@@ -80,13 +94,13 @@ fn run_picture(rt: &HostRuntime, wanted: &Drawing<'_>) -> io::Result<ExitCode> {
     };
     let heap = rt.alloc();
     let bytes = text.as_str().as_bytes();
-    match drawing(heap, bytes, wanted) {
-        Ok(picture) => {
-            print!(rt; "{picture}")?;
+    match picture(heap, bytes, wanted) {
+        Ok(drawn) => {
+            print!(rt; "{drawn}")?;
             Ok(ExitCode::SUCCESS)
         }
         Err(refusal) => {
-            let told = undrawn(heap, file.unwrap_or(INPUT), bytes, &refusal)?;
+            let told = picture_message(heap, file.unwrap_or(INPUT), bytes, &refusal)?;
             eprintln!(rt; "{told}")?;
             Ok(ExitCode::FAILURE)
         }

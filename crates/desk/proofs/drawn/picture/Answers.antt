@@ -12,6 +12,6 @@ returns c =
     let (partitions, in_turn) = c.in_ok-layout.ensures.turns in
     let last : LastColumn (vec_items c.in_ok-answered.answered.text) c.in_ok-answers.answers.items = subst (λ t. LastColumn t c.in_ok-answers.answers.items) c.as_slice.ensures.value c.in_ok-answers.ensures in
     let drawn : DrawsPart sheet c.args.drawing.now c.in_ok-layout.layout.turns.items c.in_ok-answers.answers.items (string_bytes c.in_ok-picture.picture) =
-        subst (λ t. DrawsPart sheet c.args.drawing.now t c.in_ok-answers.answers.items (string_bytes c.in_ok-picture.picture)) c.as_slice-4.ensures.value
-            (subst (λ a. DrawsPart sheet c.args.drawing.now c.as_slice-4.result.now a (string_bytes c.in_ok-picture.picture)) c.as_slice-5.ensures.value c.in_ok-picture.ensures) in
+    subst (λ t. DrawsPart sheet c.args.drawing.now t c.in_ok-answers.answers.items (string_bytes c.in_ok-picture.picture)) c.as_slice-4.ensures.value
+    (subst (λ a. DrawsPart sheet c.args.drawing.now c.as_slice-4.result.now a (string_bytes c.in_ok-picture.picture)) c.as_slice-5.ensures.value c.in_ok-picture.ensures) in
     record { answered = c.in_ok-answered.answered; table = c.in_ok-answered.ensures.answers; answers = c.in_ok-answers.answers.items; last = last; s = sheet; sheet = is; partitions = partitions; orders = c.in_ok-layout.layout.orders.items; turns = c.in_ok-layout.layout.turns.items; in_turn = in_turn; drawn = drawn }
