@@ -220,21 +220,36 @@ fn no_sources(heap: Global, values: &[Instant]) -> Result<Vec<Source>, AllocErro
     values.iter().map(|_| Source::Nothing).collect(heap)
 }
 
-// A function of the order alone.
+// What a run is shown for each row, where rows are asked one by one.
+fn shown_by<E: RowEvaluator<Value = Instant> + Drop>(
+    heap: Global,
+    evaluator: &E,
+    rows: &WholePartition<'_, Instant>,
+    by_rows: Option<usize>,
+) -> Result<Vec<(usize, usize)>, Stop>
+    ensures { IfOk result (λ v. ShownBy E.Evaluator.meaning evaluator.now E.Evaluator.WANTS_FRAMES (input rows.now) by_rows v.items) }
+{
+    match by_rows {
+        Some(step) => {
+            let told = told_by_rows(heap, evaluator, rows, step)?;
+            Ok(told.shown)
+        }
+        None => Ok(Vec::new(heap)),
+    }
+}
+
+// A function of the order alone: only what a run is shown is asked, since its answers are no places.
 fn see_none<E: RowEvaluator<Value = Instant> + Drop>(
     heap: Global,
     evaluator: &E,
     places: &Places<'_>,
     by_rows: Option<usize>,
 ) -> Result<Seen, Stop>
-where
-    E::Answer: Answer<Instant>,
     ensures { IfOk result (SeesNone E.Evaluator.meaning evaluator.now E.Evaluator.WANTS_FRAMES (held places.now) by_rows) }
 {
-    let told = ask(heap, evaluator, &places.as_partition(), by_rows)?;
     Ok(Seen {
         sources: no_sources(heap, places.values.as_slice())?,
-        shown: told.shown,
+        shown: shown_by(heap, evaluator, &places.as_partition(), by_rows)?,
     })
 }
 
