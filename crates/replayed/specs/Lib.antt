@@ -1,2 +1,3 @@
+pub mod Calls
 pub mod Told
 pub mod Wrongs
