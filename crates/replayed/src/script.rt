@@ -1,4 +1,9 @@
 // A list of calls, read and made.
+ghost use Rattle.std.specs.Prelude.{◌≡◌, length, string_bytes, vec_len, IfOk, OnOk, Some, None};
+ghost use Rattle.replay.specs.Act.{progress_of, total_now};
+ghost use Rattle.replayed.specs.Replays.{Adds, AllStand, ReplayTold, Stands, TellsCall, TellsOp, ending_at, part, refusal_of, unfinished};
+ghost use Rattle.replayed.specs.Told.{ending_text, outcome_text};
+
 use crate::calls::{Op, read_op};
 use crate::told::{Ending, Refused, Told};
 use crate::wrong::Wrong;
@@ -16,7 +21,7 @@ use lines::text::{Show, Value};
 use nth_value::NthValue;
 use rank::rank::Rank;
 use rank::row_number::RowNumber;
-use replay::calls::Call;
+use replay::calls::{Call, Reply};
 use replay::replay::{Played, replay};
 use run::rows::RowEvaluator;
 use run::run::Run;
@@ -72,18 +77,40 @@ fn steps_of<'a>(heap: Global, lines: &[Line<'a>], rows: usize) -> Result<Vec<Ste
     Ok(steps)
 }
 
+// The part of a list from a place up to another, and nothing where it ends before.
+fn part_of<T>(list: &[T], from: usize, to: usize) -> &[T]
+    ensures { result.now ≡ part list.now from to }
+{
+    list.get(from..to).unwrap_or(&[])
+}
+
 // The call of an operation; in the place of a finish the keep mark is read, which changes nothing.
-fn call_of<'a, K: Value>(column: &'a Lists<K>, op: Op) -> Call<'a, K> {
+fn call_of<'a, K: Value>(column: &'a Lists<K>, op: Op) -> Call<'a, K>
+    ensures { Stands column.now.values.items column.now.marks.items op result }
+{
     match op {
         Op::Request { from, to, frame } => {
-            let values = column.values.as_slice().get(from..to).unwrap_or(&[]);
-            let marks = column.marks.as_slice().get(from..to).unwrap_or(&[]);
+            let values = part_of(column.values.as_slice(), from, to);
+            let marks = part_of(column.marks.as_slice(), from, to);
             Call::Request(Window::new(from, values, marks), frame)
         }
         Op::Settle => Call::Settle,
         Op::Mark | Op::Finish => Call::KeepMark,
         Op::Close(total) => Call::Close(total),
     }
+}
+
+fn calls_of<'a, K: Value>(
+    heap: Global,
+    column: &'a Lists<K>,
+    steps: &[Step<'_>],
+) -> Result<Vec<Call<'a, K>>, AllocError>
+    ensures { IfOk result (λ v. (vec_len v ≡ length steps.now) × AllStand column.now.values.items column.now.marks.items steps.now v.items (length steps.now)) }
+{
+    steps
+        .iter()
+        .map(|step| call_of(column, step.op))
+        .collect(heap)
 }
 
 // What a refusal means, its first line.
@@ -96,7 +123,9 @@ fn meaning(fault: Fault) -> &'static str {
 }
 
 // A call's line with its outcome, and what a refusal means.
-fn push_told<A: Show>(text: &mut String, line: Line<'_>, told: Told<A>) -> Result<(), AllocError> {
+fn push_told<A: Show>(text: &mut String, line: Line<'_>, told: Told<A>) -> Result<(), AllocError>
+    ensures { OnOk result (Adds (string_bytes text.old) (string_bytes text.new) (TellsCall line.entry.text.now (outcome_text A.Show.text told.0) (refusal_of told.0))) }
+{
     let call = line.text;
     write!(text, "{call}: {told}\n")?;
     if let Err(fault) = told.0 {
@@ -106,7 +135,10 @@ fn push_told<A: Show>(text: &mut String, line: Line<'_>, told: Told<A>) -> Resul
     Ok(())
 }
 
-fn push_ending(text: &mut String, line: Line<'_>, ending: Ending) -> Result<(), AllocError> {
+// The same of finishing.
+fn push_ending(text: &mut String, line: Line<'_>, ending: Ending) -> Result<(), AllocError>
+    ensures { OnOk result (Adds (string_bytes text.old) (string_bytes text.new) (TellsCall line.entry.text.now (ending_text ending.0) (unfinished ending.0))) }
+{
     let call = line.text;
     write!(text, "{call}: {ending}\n")?;
     if let Some(Err(fault)) = ending.0 {
@@ -116,8 +148,25 @@ fn push_ending(text: &mut String, line: Line<'_>, ending: Ending) -> Result<(), 
     Ok(())
 }
 
+// An operation's line with what it ended in.
+fn push_step<A: Show>(
+    text: &mut String,
+    step: Step<'_>,
+    outcome: Result<Reply<A>, Fault>,
+    ending: Ending,
+) -> Result<(), AllocError>
+    ensures { OnOk result (Adds (string_bytes text.old) (string_bytes text.new) (TellsOp A.Show.text ending.0 step.entry.line.text.now step.entry.op outcome)) }
+{
+    match step.op {
+        Op::Finish => push_ending(text, step.line, ending),
+        _ => push_told(text, step.line, Told(outcome)),
+    }
+}
+
 // What finishing the run ends in.
-fn ending_of<E: RowEvaluator + Drop>(run: Run<E>) -> Ending {
+fn ending_of<E: RowEvaluator + Drop>(run: Run<E>) -> Ending
+    ensures { result.0 ≡ ending_at (progress_of run).next (total_now run) }
+{
     match run {
         Run::Opened(_) => Ending(None),
         Run::Shut(closed) => {
@@ -145,23 +194,15 @@ fn made<E: RowEvaluator + Drop>(
 where
     E::Value: Value,
     E::Answer: Show,
+    ensures { IfOk result (λ s. ReplayTold E.Answer.Show.text E.Evaluator.meaning evaluator.now E.Evaluator.WANTS_FRAMES script.now.from_zero script.now.column.values.items script.now.column.marks.items script.now.steps.items (string_bytes s)) }
 {
-    let calls: Vec<Call<'_, E::Value>> = script
-        .steps
-        .iter()
-        .map(|step| call_of(&script.column, step.op))
-        .collect(heap)?;
+    let steps = script.steps.as_slice();
+    let calls = calls_of(heap, &script.column, steps)?;
     let Played { run, entries } = replay(heap, evaluator, script.from_zero, calls.as_slice())?;
+    let ending = ending_of(run);
     let mut text = String::new(heap);
-    for (step, entry) in script.steps.iter().zip(entries.iter()) {
-        if !matches!(step.op, Op::Finish) {
-            push_told(&mut text, step.line, Told(entry.outcome))?;
-        }
-    }
-    if let Some(last) = script.steps.last() {
-        if matches!(last.op, Op::Finish) {
-            push_ending(&mut text, last.line, ending_of(run))?;
-        }
+    for (step, entry) in steps.iter().zip(entries.iter()) {
+        push_step(&mut text, *step, entry.outcome, ending)?;
     }
     Ok(text)
 }
