@@ -1,17 +1,28 @@
 -- What is written of a list of calls.
-use Rattle.std.specs.Prelude.{◌≡◌, ◌==◌, ℕ, ◌<◌, ◌&&◌, Bool, cond, List, [], ◌∷◌, ◌++◌, codes, get_or, length, nat_le, slice_index_or, slice_range, Option, Some, None, Result, Ok, Err}
+use Rattle.std.specs.Prelude.{◌≡◌, ◌==◌, ℕ, ◌<◌, ◌&&◌, Bool, true, false, cond, List, [], ◌∷◌, ◌++◌, codes, decimal, get_or, length, nat_le, slice_index_or, slice_range, MatchResult, Option, Some, None, Result, Ok, Err}
 use Rattle.column.specs.declared.column.Window.{Window}
 use Rattle.column.specs.declared.fault.Fault.{Fault}
 use Rattle.column.specs.declared.fault.Fault.TheVariants.{Unanswered}
 use Rattle.evaluator.specs.Meaning.{Meaning}
+use Rattle.functions.specs.declared.function.Function.{Function}
+use Rattle.functions.specs.declared.function.Function.TheVariants as functions
+use Rattle.functions.specs.Making.{frames_making}
+use Rattle.lead_lag.specs.Shift.{making, shift_meaning}
+use Rattle.lines.specs.Reads.{ReadsColumn}
+use Rattle.lines.specs.Texts.{cell_text}
+use Rattle.nth_value.specs.Nth.{nth_meaning}
+use Rattle.rank.specs.Numbers.{new_row_number, row_number_meaning}
+use Rattle.rank.specs.Ranks.{new_rank, rank_meaning}
 use Rattle.replay.specs.declared.calls.Call.{Call}
 use Rattle.replay.specs.declared.calls.Call.TheVariants as call
 use Rattle.replay.specs.declared.calls.Entry.{Entry}
 use Rattle.replay.specs.History.{Event, Outcome, Replayed, accepted, history, total_of}
 use Rattle.replayed.specs.declared.calls.Op.{Op}
 use Rattle.replayed.specs.declared.calls.Op.TheVariants as op
+use Rattle.replayed.specs.declared.script.Line.{Line}
 use Rattle.replayed.specs.declared.script.Step.{Step}
-use Rattle.replayed.specs.Told.{ending_text, outcome_text}
+use Rattle.replayed.specs.Calls.{ReadsOp}
+use Rattle.replayed.specs.Told.{ending_text, outcome_text, refusal_text}
 
 -- the part of a list from a place up to another, and nothing where it ends before
 abbrev pub part : {V : Type 0} → List V → ℕ → ℕ → List V
@@ -83,3 +94,40 @@ pub record ReplayTold {V A S : Type 0} (answer_text : A → List ℕ) (meaning :
 -- a text with more behind it
 abbrev pub Adds : List ℕ → List ℕ → (List ℕ → Type 0) → Type 0
 Adds old new Tells = (here : List ℕ) × (new ≡ old ++ here) × Tells here
+
+-- an operation is what its line is read as; a finish has no line behind it
+abbrev pub ReadsStep : ℕ → List Line → Line → Step → Type 0
+ReadsStep rows behind l s = (s.line ≡ l) × ReadsOp rows l.text.now s.op × (s.op ≡ op.Finish → behind ≡ [])
+
+-- the operations that lines are read as
+abbrev pub ReadsSteps : ℕ → List Line → List Step → Type 0
+ReadsSteps rows [] steps = steps ≡ []
+ReadsSteps rows (l ∷ lines) [] = ⊥
+ReadsSteps rows (l ∷ lines) (s ∷ steps) = ReadsStep rows lines l s × ReadsSteps rows lines steps
+
+-- what comes of an evaluator that is made, or of its refusal at the head
+abbrev pub TellsMade : {E V A : Type 0} → (A → List ℕ) → (E → Meaning V A) → Bool → Bool → List V → List Bool → List Step → List ℕ → Result E Fault → List ℕ → Type 0
+TellsMade answer_text meaning wants from_zero values marks steps head made text = MatchResult made (λ e. ReplayTold answer_text meaning e wants from_zero values marks steps text) (λ f. TellsCall head (refusal_text f) (Some f) text)
+
+-- what comes of a function; of one that does not answer by rows nothing does
+abbrev pub TellsFunction : {V : Type 0} → (V → V → Bool) → (V → List ℕ) → Bool → List V → List Bool → List Step → List ℕ → Function V → List ℕ → Type 0
+TellsFunction same value_text from_zero values marks steps head (functions.Shift s) = TellsMade (cell_text value_text) shift_meaning false from_zero values marks steps head (making s.kind s.offset s.reversed s.ignore_nulls s.default)
+TellsFunction same value_text from_zero values marks steps head (functions.Frames f) = TellsMade (cell_text value_text) nth_meaning true from_zero values marks steps head (frames_making f)
+TellsFunction same value_text from_zero values marks steps head (functions.Rank t) = ReplayTold decimal (rank_meaning same) (new_rank t) false from_zero values marks steps
+TellsFunction same value_text from_zero values marks steps head functions.RowNumber = ReplayTold decimal row_number_meaning new_row_number false from_zero values marks steps
+TellsFunction same value_text from_zero values marks steps head functions.PercentRank = λ text. ⊥
+TellsFunction same value_text from_zero values marks steps head functions.CumeDist = λ text. ⊥
+
+-- at a kind of values: the second line is read as the column, and the others as operations, all made on a run of one function
+pub record TellsList {V : Type 0} (Reads : List ℕ → V → Type 0) (same : V → V → Bool) (value_text : V → List ℕ) (head : Line) (rest : List Line) (text : List ℕ) : Type 0 where
+  pub second : Line
+  pub lines : List Line
+  pub split : rest ≡ second ∷ lines
+  pub function : Function V
+  pub from_zero : Bool
+  pub values : List V
+  pub marks : List Bool
+  pub column : ReadsColumn Reads 32 second.text.now values marks
+  pub steps : List Step
+  pub reads : ReadsSteps (length values) lines steps
+  pub told : TellsFunction same value_text from_zero values marks steps head.text.now function text

@@ -1,8 +1,10 @@
 // A list of calls, read and made.
-ghost use Rattle.std.specs.Prelude.{◌≡◌, length, string_bytes, vec_len, IfOk, OnOk, Some, None};
+ghost use Rattle.std.specs.Prelude.{◌≡◌, length, string_bytes, vec_len, IfOk, OnOk, Some, None, T};
 ghost use Rattle.replay.specs.Act.{progress_of, total_now};
-ghost use Rattle.replayed.specs.Replays.{Adds, AllStand, ReplayTold, Stands, TellsCall, TellsOp, ending_at, part, refusal_of, unfinished};
-ghost use Rattle.replayed.specs.Told.{ending_text, outcome_text};
+ghost use Rattle.lines.specs.Reads.{ReadsColumn};
+ghost use Rattle.replayed.specs.declared.calls.Op.TheVariants.{Finish};
+ghost use Rattle.replayed.specs.Replays.{Adds, AllStand, ReadsSteps, ReplayTold, Stands, TellsCall, TellsFunction, TellsList, TellsMade, TellsOp, ending_at, part, refusal_of, unfinished};
+ghost use Rattle.replayed.specs.Told.{ending_text, outcome_text, refusal_text};
 
 use crate::calls::{Op, read_op};
 use crate::told::{Ending, Refused, Told};
@@ -62,16 +64,26 @@ struct Step<'a> {
     op: Op,
 }
 
-fn steps_of<'a>(heap: Global, lines: &[Line<'a>], rows: usize) -> Result<Vec<Step<'a>>, Wrong> {
+// A finish has to be the last call.
+fn check_finish(op: Op, is_last: bool, number: usize) -> Result<(), Wrong>
+    ensures { OnOk result (op ≡ Finish → T is_last) }
+{
+    if matches!(op, Op::Finish) && !is_last {
+        return Err(Wrong::At {
+            line: number,
+            column: 1,
+        });
+    }
+    Ok(())
+}
+
+fn steps_of<'a>(heap: Global, lines: &[Line<'a>], rows: usize) -> Result<Vec<Step<'a>>, Wrong>
+    ensures { IfOk result (λ v. ReadsSteps rows lines.now v.items) }
+{
     let mut steps = Vec::new(heap);
     for (i, line) in lines.iter().enumerate() {
         let op = read_op(line.text, rows).map_err(|bad| Wrong::at(line.number, bad))?;
-        if matches!(op, Op::Finish) && i.saturating_add(1) < lines.len() {
-            return Err(Wrong::At {
-                line: line.number,
-                column: 1,
-            });
-        }
+        check_finish(op, i + 1 == lines.len(), line.number)?;
         steps.push(Step { line: *line, op })?;
     }
     Ok(steps)
@@ -207,6 +219,18 @@ where
     Ok(text)
 }
 
+// A refused evaluator: the head with the refusal, and what that means.
+fn refusal(heap: Global, head: Line<'_>, fault: Fault) -> Result<String, AllocError>
+    ensures { IfOk result (λ s. TellsCall head.entry.text.now (refusal_text fault) (Some fault) (string_bytes s)) }
+{
+    let head = head.text;
+    let refused = Refused(fault);
+    let meaning = meaning(fault);
+    let mut text = String::new(heap);
+    write!(text, "{head}: {refused}\n  {meaning}\n")?;
+    Ok(text)
+}
+
 // What comes of an evaluator, or of its refusal.
 fn answered<E: RowEvaluator + Drop>(
     heap: Global,
@@ -216,15 +240,11 @@ fn answered<E: RowEvaluator + Drop>(
 where
     E::Value: Value,
     E::Answer: Show,
+    ensures { IfOk result (λ s. TellsMade E.Answer.Show.text E.Evaluator.meaning E.Evaluator.WANTS_FRAMES script.now.from_zero script.now.column.values.items script.now.column.marks.items script.now.steps.items script.now.head.text.now evaluator (string_bytes s)) }
 {
     match evaluator {
         Ok(evaluator) => Ok(made(heap, &evaluator, script)?),
-        Err(fault) => {
-            let head = script.head.text;
-            let refused = Refused(fault);
-            let meaning = meaning(fault);
-            Ok(format!(in heap; "{head}: {refused}\n  {meaning}\n")?)
-        }
+        Err(fault) => Ok(refusal(heap, script.head, fault)?),
     }
 }
 
@@ -249,12 +269,34 @@ fn read_head<K: Value>(cursor: &mut Cursor<'_>) -> Result<(Function<K>, bool), B
     Ok((function, read_zero(cursor)?))
 }
 
-fn column_of<K: Value>(heap: Global, line: Line<'_>) -> Result<Lists<K>, Wrong> {
+fn column_of<K: Value>(heap: Global, line: Line<'_>) -> Result<Lists<K>, Wrong>
+    ensures { IfOk result (λ c. ReadsColumn K.Text.reads 32 line.entry.text.now c.values.items c.marks.items) }
+{
     let mut cursor = Cursor::new(line.text);
     let column = read_column::<K>(heap, &mut cursor, b' ').map_err(|stop| wrong(line, stop))?;
     match cursor.end() {
         Ok(()) => Ok(column),
         Err(bad) => Err(Wrong::at(line.number, bad)),
+    }
+}
+
+// What comes of a function on a list that is read; of one that does not answer by rows nothing does.
+fn tell<K: Value>(
+    heap: Global,
+    script: &Script<'_, K>,
+    function: Function<K>,
+) -> Result<String, Wrong>
+    ensures { IfOk result (λ s. TellsFunction K.Kind.same K.Show.text script.now.from_zero script.now.column.values.items script.now.column.marks.items script.now.steps.items script.now.head.text.now function (string_bytes s)) }
+{
+    match function {
+        Function::Shift(shift) => answered(heap, script, WindowShift::try_from(shift)),
+        Function::Frames(frames) => answered(heap, script, NthValue::<K>::try_from(frames)),
+        Function::Rank(rank_type) => answered(heap, script, Ok(Rank::<K>::new(rank_type))),
+        Function::RowNumber => answered(heap, script, Ok(RowNumber::<K>::new())),
+        Function::PercentRank | Function::CumeDist => Err(Wrong::At {
+            line: script.head.number,
+            column: 1,
+        }),
     }
 }
 
@@ -264,7 +306,9 @@ fn replayed_at<'a, K: Value>(
     head: Line<'a>,
     cursor: &mut Cursor<'_>,
     rest: &[Line<'a>],
-) -> Result<String, Wrong> {
+) -> Result<String, Wrong>
+    ensures { IfOk result (λ s. TellsList K.Text.reads K.Kind.same K.Show.text head.entry rest.now (string_bytes s)) }
+{
     let (function, from_zero) = read_head::<K>(cursor).map_err(|bad| Wrong::at(head.number, bad))?;
     let (second, calls) = rest.split_first().ok_or(Wrong::At {
         line: head.number,
@@ -278,16 +322,7 @@ fn replayed_at<'a, K: Value>(
         column,
         steps,
     };
-    match function {
-        Function::Shift(shift) => answered(heap, &script, WindowShift::try_from(shift)),
-        Function::Frames(frames) => answered(heap, &script, NthValue::<K>::try_from(frames)),
-        Function::Rank(rank_type) => answered(heap, &script, Ok(Rank::<K>::new(rank_type))),
-        Function::RowNumber => answered(heap, &script, Ok(RowNumber::<K>::new())),
-        Function::PercentRank | Function::CumeDist => Err(Wrong::At {
-            line: head.number,
-            column: 1,
-        }),
-    }
+    tell(heap, &script, function)
 }
 
 // The outcomes of a list of calls: a line `KIND FUNCTION [zero]`, one with the column, and a call a line.
