@@ -1,3 +1,7 @@
+ghost use Rattle.std.specs.Prelude.{codes, IfOk};
+ghost use Rattle.lines.specs.Cursors.{Onward, passed};
+ghost use Rattle.replayed.specs.Calls.{ReadsClose, ReadsFrame, ReadsNamed, ReadsOp};
+
 use lines::cursor::Cursor;
 use lines::stop::Bad;
 use lines::text::Text;
@@ -16,45 +20,63 @@ pub enum Op {
     Finish,
 }
 
-// `FROM TO`, and perhaps a frame `S-E`, of so many rows.
-fn read_request(cursor: &mut Cursor<'_>, rows: usize) -> Result<Op, Bad> {
+// Nothing, or a blank and a frame `S-E`.
+fn read_frame(cursor: &mut Cursor<'_>) -> Result<Option<(usize, usize)>, Bad>
+    ensures reads { IfOk result (λ f. ReadsFrame (passed cursor.old cursor.new) f) }
+    ensures onward { Onward cursor.old cursor.new }
+{
+    if cursor.is_end() {
+        return Ok(None);
+    }
+    cursor.expect(b' ')?;
+    Ok(Some(<(usize, usize)>::read(cursor)?))
+}
+
+// ` FROM TO`, and perhaps a frame, of so many rows.
+fn read_request(cursor: &mut Cursor<'_>, rows: usize) -> Result<Op, Bad>
+    ensures reads { IfOk result (λ op. ReadsNamed rows (codes "request") (passed cursor.old cursor.new) op) }
+    ensures onward { Onward cursor.old cursor.new }
+{
     cursor.expect(b' ')?;
     let from = cursor.number_in(0..=rows)?;
     cursor.expect(b' ')?;
     let to = cursor.number_in(from..=rows)?;
-    if cursor.is_end() {
-        return Ok(Op::Request {
-            from,
-            to,
-            frame: None,
-        });
-    }
-    cursor.expect(b' ')?;
-    let frame = <(usize, usize)>::read(cursor)?;
-    Ok(Op::Request {
-        from,
-        to,
-        frame: Some(frame),
-    })
+    let frame = read_frame(cursor)?;
+    Ok(Op::Request { from, to, frame })
 }
 
-fn read_close(cursor: &mut Cursor<'_>) -> Result<Op, Bad> {
+// ` ROWS`.
+fn read_close(cursor: &mut Cursor<'_>) -> Result<usize, Bad>
+    ensures reads { IfOk result (λ total. ReadsClose (passed cursor.old cursor.new) total) }
+    ensures onward { Onward cursor.old cursor.new }
+{
     cursor.expect(b' ')?;
-    Ok(Op::Close(cursor.number::<usize>()?))
+    cursor.number::<usize>()
+}
+
+// The call of this word, from what stands behind it; an unknown word is bad where it begins.
+fn read_named(cursor: &mut Cursor<'_>, name: &str, start: Bad, rows: usize) -> Result<Op, Bad>
+    ensures reads { IfOk result (λ op. ReadsNamed rows name.now (passed cursor.old cursor.new) op) }
+    ensures onward { Onward cursor.old cursor.new }
+{
+    match name {
+        "request" => read_request(cursor, rows),
+        "close" => Ok(Op::Close(read_close(cursor)?)),
+        "settle" => Ok(Op::Settle),
+        "mark" => Ok(Op::Mark),
+        "finish" => Ok(Op::Finish),
+        _ => Err(start),
+    }
 }
 
 // `request FROM TO [S-E]`, `settle`, `mark`, `close ROWS` or `finish`.
-pub fn read_op(line: &str, rows: usize) -> Result<Op, Bad> {
+pub fn read_op(line: &str, rows: usize) -> Result<Op, Bad>
+    ensures reads { IfOk result (λ op. ReadsOp rows line.now op) }
+{
     let mut cursor = Cursor::new(line);
     let start = cursor.bad();
-    let op = match cursor.word() {
-        "request" => read_request(&mut cursor, rows)?,
-        "close" => read_close(&mut cursor)?,
-        "settle" => Op::Settle,
-        "mark" => Op::Mark,
-        "finish" => Op::Finish,
-        _ => return Err(start),
-    };
+    let name = cursor.word();
+    let op = read_named(&mut cursor, name, start, rows)?;
     cursor.end()?;
     Ok(op)
 }
