@@ -1,5 +1,5 @@
 -- The texts of calls.
-use Rattle.std.specs.Prelude.{◌≡◌, ◌≤◌, ℕ, List, [], ◌++◌, codes, Option, Some, None}
+use Rattle.std.specs.Prelude.{◌≡◌, ◌≤◌, ℕ, Bool, false, not, nat_eq, List, [], ◌∷◌, ◌++◌, codes, Option, Some, None}
 use Rattle.lines.specs.Reads.{ReadsSpan, ReadsUnsigned}
 use Rattle.replayed.specs.declared.calls.Op.{Op}
 use Rattle.replayed.specs.declared.calls.Op.TheVariants as op
@@ -28,3 +28,8 @@ ReadsNamed rows name bs op.Finish = (name ≡ codes "finish") × (bs ≡ [])
 -- a call's line, of a column with so many rows
 abbrev pub ReadsOp : ℕ → List ℕ → Op → Type 0
 ReadsOp rows bs o = (name : List ℕ) × (behind : List ℕ) × (bs ≡ name ++ behind) × ReadsNamed rows name behind o
+
+-- a line that is neither empty nor begins with `#`
+abbrev pub is_call : List ℕ → Bool
+is_call [] = false
+is_call (b ∷ bs) = not (nat_eq b 35)

@@ -1,6 +1,9 @@
 -- What is written of a list of calls.
-use Rattle.std.specs.Prelude.{◌≡◌, ◌==◌, ℕ, ◌<◌, ◌&&◌, Bool, true, false, cond, List, [], ◌∷◌, ◌++◌, codes, decimal, get_or, length, nat_le, slice_index_or, slice_range, MatchResult, Option, Some, None, Result, Ok, Err}
+use Rattle.std.specs.Prelude.{◌≡◌, ◌==◌, ℕ, ◌<◌, ◌&&◌, Bool, true, false, cond, List, [], ◌∷◌, ◌++◌, codes, decimal, get_or, length, map, nat_le, slice_index_or, slice_range, MatchResult, Option, Some, None, Result, Ok, Err}
+use Rattle.std.specs.List.{enumerate_from, filter}
+use Rattle.std.specs.Str.Lines.{lines}
 use Rattle.column.specs.declared.column.Window.{Window}
+use Rattle.column.specs.Kinds.{same_code, same_instant, same_outcome, same_pair, same_pseudonym}
 use Rattle.column.specs.declared.fault.Fault.{Fault}
 use Rattle.column.specs.declared.fault.Fault.TheVariants.{Unanswered}
 use Rattle.evaluator.specs.Meaning.{Meaning}
@@ -8,8 +11,10 @@ use Rattle.functions.specs.declared.function.Function.{Function}
 use Rattle.functions.specs.declared.function.Function.TheVariants as functions
 use Rattle.functions.specs.Making.{frames_making}
 use Rattle.lead_lag.specs.Shift.{making, shift_meaning}
-use Rattle.lines.specs.Reads.{ReadsColumn}
-use Rattle.lines.specs.Texts.{cell_text}
+use Rattle.lines.specs.declared.kinds.KindName.{KindName}
+use Rattle.lines.specs.declared.kinds.KindName.TheVariants as kinds
+use Rattle.lines.specs.Reads.{ReadsCode, ReadsColumn, ReadsInstant, ReadsOutcome, ReadsPair, ReadsPseudonym}
+use Rattle.lines.specs.Texts.{cell_text, code_text, instant_text, outcome_text as value_outcome_text, pair_text, pseudonym_text}
 use Rattle.nth_value.specs.Nth.{nth_meaning}
 use Rattle.rank.specs.Numbers.{new_row_number, row_number_meaning}
 use Rattle.rank.specs.Ranks.{new_rank, rank_meaning}
@@ -21,7 +26,7 @@ use Rattle.replayed.specs.declared.calls.Op.{Op}
 use Rattle.replayed.specs.declared.calls.Op.TheVariants as op
 use Rattle.replayed.specs.declared.script.Line.{Line}
 use Rattle.replayed.specs.declared.script.Step.{Step}
-use Rattle.replayed.specs.Calls.{ReadsOp}
+use Rattle.replayed.specs.Calls.{ReadsOp, is_call}
 use Rattle.replayed.specs.Told.{ending_text, outcome_text, refusal_text}
 
 -- the part of a list from a place up to another, and nothing where it ends before
@@ -121,13 +126,38 @@ TellsFunction same value_text from_zero values marks steps head functions.CumeDi
 -- at a kind of values: the second line is read as the column, and the others as operations, all made on a run of one function
 pub record TellsList {V : Type 0} (Reads : List ℕ → V → Type 0) (same : V → V → Bool) (value_text : V → List ℕ) (head : Line) (rest : List Line) (text : List ℕ) : Type 0 where
   pub second : Line
-  pub lines : List Line
-  pub split : rest ≡ second ∷ lines
+  pub calls : List Line
+  pub split : rest ≡ second ∷ calls
   pub function : Function V
   pub from_zero : Bool
   pub values : List V
   pub marks : List Bool
   pub column : ReadsColumn Reads 32 second.text.now values marks
   pub steps : List Step
-  pub reads : ReadsSteps (length values) lines steps
+  pub reads : ReadsSteps (length values) calls steps
   pub told : TellsFunction same value_text from_zero values marks steps head.text.now function text
+
+-- the lines of a text that hold calls, in order
+abbrev pub call_lines : List ℕ → List (List ℕ)
+call_lines text = map (λ p. p.1) (filter (λ p. is_call p.1) (enumerate_from 0 (lines text)))
+
+-- these are they
+abbrev pub AreLines : List ℕ → List Line → Type 0
+AreLines text list = map (λ l. l.text.now) list ≡ call_lines text
+
+-- the list at a kind of values
+abbrev pub TellsKind : KindName → Line → List Line → List ℕ → Type 0
+TellsKind kinds.Instant = TellsList ReadsInstant same_instant instant_text
+TellsKind kinds.Pseudonym = TellsList ReadsPseudonym same_pseudonym pseudonym_text
+TellsKind kinds.Code = TellsList ReadsCode same_code code_text
+TellsKind kinds.Outcome = TellsList ReadsOutcome same_outcome value_outcome_text
+TellsKind kinds.InstantCode = TellsList (ReadsPair ReadsInstant ReadsCode) (same_pair same_instant same_code) (pair_text instant_text code_text)
+TellsKind kinds.OutcomeLogin = TellsList (ReadsPair ReadsOutcome (ReadsPair ReadsInstant ReadsPseudonym)) (same_pair same_outcome (same_pair same_instant same_pseudonym)) (pair_text value_outcome_text (pair_text instant_text pseudonym_text))
+
+-- What is written of a text that is read: its calls in order, each with its outcome.
+pub record Replays (text out : List ℕ) : Type 0 where
+  pub head : Line
+  pub rest : List Line
+  pub are : AreLines text (head ∷ rest)
+  pub kind : KindName
+  pub told : TellsKind kind head rest out

@@ -2,8 +2,9 @@
 ghost use Rattle.std.specs.Prelude.{◌≡◌, length, string_bytes, vec_len, IfOk, OnOk, Some, None, T};
 ghost use Rattle.replay.specs.Act.{progress_of, total_now};
 ghost use Rattle.lines.specs.Reads.{ReadsColumn};
+ghost use Rattle.replayed.specs.Calls.{is_call};
 ghost use Rattle.replayed.specs.declared.calls.Op.TheVariants.{Finish};
-ghost use Rattle.replayed.specs.Replays.{Adds, AllStand, ReadsSteps, ReplayTold, Stands, TellsCall, TellsFunction, TellsList, TellsMade, TellsOp, ending_at, part, refusal_of, unfinished};
+ghost use Rattle.replayed.specs.Replays.{Adds, AllStand, AreLines, ReadsSteps, ReplayTold, Replays, Stands, TellsCall, TellsFunction, TellsKind, TellsList, TellsMade, TellsOp, ending_at, part, refusal_of, unfinished};
 ghost use Rattle.replayed.specs.Told.{ending_text, outcome_text, refusal_text};
 
 use crate::calls::{Op, read_op};
@@ -36,18 +37,25 @@ struct Line<'a> {
     text: &'a str,
 }
 
-// The lines that are neither empty nor comments.
-fn lines_of<'a>(heap: Global, text: &'a str) -> Result<Vec<Line<'a>>, AllocError> {
-    let mut lines = Vec::new(heap);
-    for (i, text) in text.lines().enumerate() {
-        if !text.is_empty() && !text.starts_with('#') {
-            lines.push(Line {
-                number: i.saturating_add(1),
-                text,
-            })?;
-        }
-    }
-    Ok(lines)
+// Whether a line is neither empty nor a comment.
+fn holds_call(line: &str) -> bool
+    ensures { result ≡ is_call line.now }
+{
+    !line.is_empty() && !line.starts_with('#')
+}
+
+// The lines that hold calls.
+fn lines_of<'a>(heap: Global, text: &'a str) -> Result<Vec<Line<'a>>, AllocError>
+    ensures { IfOk result (λ v. AreLines text.now v.items) }
+{
+    text.lines()
+        .enumerate()
+        .filter(|(_, line)| holds_call(line))
+        .map(|(i, line)| Line {
+            number: i.saturating_add(1),
+            text: line,
+        })
+        .collect(heap)
 }
 
 fn wrong(line: Line<'_>, stop: Stop) -> Wrong {
@@ -325,8 +333,34 @@ fn replayed_at<'a, K: Value>(
     tell(heap, &script, function)
 }
 
+// The list at its kind of values; only a `match` gets from a name to a type.
+fn replayed_kind<'a>(
+    heap: Global,
+    kind: KindName,
+    head: Line<'a>,
+    cursor: &mut Cursor<'_>,
+    rest: &[Line<'a>],
+) -> Result<String, Wrong>
+    ensures { IfOk result (λ s. TellsKind kind head.entry rest.now (string_bytes s)) }
+{
+    match kind {
+        KindName::Instant => replayed_at::<Instant>(heap, head, cursor, rest),
+        KindName::Pseudonym => replayed_at::<Pseudonym>(heap, head, cursor, rest),
+        KindName::Code => replayed_at::<CollegeCode>(heap, head, cursor, rest),
+        KindName::Outcome => replayed_at::<LoginOutcome>(heap, head, cursor, rest),
+        KindName::InstantCode => {
+            replayed_at::<Pair<Instant, CollegeCode>>(heap, head, cursor, rest)
+        }
+        KindName::OutcomeLogin => {
+            replayed_at::<Pair<LoginOutcome, Pair<Instant, Pseudonym>>>(heap, head, cursor, rest)
+        }
+    }
+}
+
 // The outcomes of a list of calls: a line `KIND FUNCTION [zero]`, one with the column, and a call a line.
-pub fn replayed(heap: Global, text: &str) -> Result<String, Wrong> {
+pub fn replayed(heap: Global, text: &str) -> Result<String, Wrong>
+    ensures { IfOk result (λ s. Replays text.now (string_bytes s)) }
+{
     let lines = lines_of(heap, text)?;
     let (head, rest) = lines
         .as_slice()
@@ -334,22 +368,5 @@ pub fn replayed(heap: Global, text: &str) -> Result<String, Wrong> {
         .ok_or(Wrong::At { line: 1, column: 1 })?;
     let mut cursor = Cursor::new(head.text);
     let kind = read_kind(&mut cursor).map_err(|bad| Wrong::at(head.number, bad))?;
-    // only a `match` gets from a name to a type
-    match kind {
-        KindName::Instant => replayed_at::<Instant>(heap, *head, &mut cursor, rest),
-        KindName::Pseudonym => replayed_at::<Pseudonym>(heap, *head, &mut cursor, rest),
-        KindName::Code => replayed_at::<CollegeCode>(heap, *head, &mut cursor, rest),
-        KindName::Outcome => replayed_at::<LoginOutcome>(heap, *head, &mut cursor, rest),
-        KindName::InstantCode => {
-            replayed_at::<Pair<Instant, CollegeCode>>(heap, *head, &mut cursor, rest)
-        }
-        KindName::OutcomeLogin => {
-            replayed_at::<Pair<LoginOutcome, Pair<Instant, Pseudonym>>>(
-                heap,
-                *head,
-                &mut cursor,
-                rest,
-            )
-        }
-    }
+    replayed_kind(heap, kind, *head, &mut cursor, rest)
 }
