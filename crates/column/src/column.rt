@@ -74,10 +74,12 @@ impl<K: Kind> Column<'_, K> {
     pub fn cell(&self, row: usize) -> Option<K>
         ensures { result ≡ slice_index_or (column_cells self.now) row None }
     {
-        if !self.is_marked(row) {
-            return None;
+        let value = self.values.get(row)?;
+        if self.is_marked(row) {
+            Some(*value)
+        } else {
+            None
         }
-        Some(*self.values.get(row)?)
     }
 
     // All cells, as many as the shorter list has.
@@ -113,9 +115,13 @@ impl<K: Kind> Window<'_, K> {
     }
 }
 
-// Both NULL, or both present and the same: `==`, by a contract that speaks of the kind's sameness.
+// Both NULL, or both present and the same.
 pub fn same_cell<K: Kind>(a: Option<K>, b: Option<K>) -> bool
     ensures { result ≡ same_cell K.Kind.same a b }
 {
-    a == b
+    match (a, b) {
+        (Some(x), Some(y)) => x.same(&y),
+        (None, None) => true,
+        _ => false,
+    }
 }

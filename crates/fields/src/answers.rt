@@ -5,7 +5,7 @@ ghost use Rattle.fields.specs.declared.answers.Stop.TheVariants.{Memory};
 ghost use Rattle.partition.specs.Table.{input, row_count, whole_refusal};
 
 use crate::values::FieldValue;
-use column::column::Column;
+use column::column::{Column, same_cell};
 use column::fault::Fault;
 use column::kind::Kind;
 use evaluator::cells::evaluate_cells;
@@ -85,7 +85,7 @@ impl<K: FieldValue> Answer<K> for Option<K> {
     }
 
     fn is_same(&self, other: &Option<K>) -> bool {
-        *self == *other
+        same_cell(*self, *other)
     }
 
     fn write(&self, heap: Global, out: &mut Vec<u8>) -> Result<(), AllocError> {

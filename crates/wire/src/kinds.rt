@@ -23,7 +23,15 @@ pub struct InstantCode {
 impl Kind for InstantCode {
     ghost same = { same_instant_code };
 
-    ghost tested = { Prim.search rules };
+    ghost reflexive = { Prim.search rules };
+
+    ghost symmetric = { Prim.search rules };
+
+    ghost transitive = { Prim.search rules };
+
+    fn same(&self, other: &InstantCode) -> bool {
+        self == other
+    }
 }
 
 // A login outcome as two numbers: 0 granted, 1 refused with the reason, 2 timed out; without a reason 0 stands for it.

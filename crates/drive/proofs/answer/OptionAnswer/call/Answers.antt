@@ -1,7 +1,6 @@
 use Rattle.std.proofs.Common.{◌≡◌, ℕ, ◌<◌, ◌∙◌, T, None, true, take, false, length, List, Bool, ap, rules, slice_index_or, subst, sym}
 use Rattle.std.proofs.lemmas.List.{take_at, get_or_default}
 use Rattle.std.proofs.lemmas.Result.{IfOk-weaker}
-use Rattle.column.proofs.Sameness.{sameness}
 use Rattle.column.specs.Cells.{cells}
 use Rattle.column.specs.Slots.{CellSlots, cell_count}
 use Rattle.evaluator.specs.Meaning.{partition}
@@ -28,7 +27,7 @@ returns-then-not-is_kept g c =
     let marked : (k : ℕ) → k < length s.marks → T (slice_index_or s.marks k false) = λ k h. subst T (sym (get_or_default s.marks k false true h ∙ there k h)) tt in
     let values : c.as_column.result.values.now ≡ t.values = c.as_column.ensures.values ∙ take_at _ _ _ (search rules) in
     let marks : c.as_column.result.marks.now ≡ t.marks = c.as_column.ensures.marks ∙ take_at _ _ _ (search rules) in
-    let kept = cells_kept g.K.Kind.same p ((sameness g.K.PartialEq.eq g.K.Kind.same g.met.K.Eq.laws g.met.K.Kind.tested).reflexive p) answers (row_count x) c.map_or.result s t holds marked refusal _ c.evaluate_cells-made.ensures.call c.evaluate_cells-made.ensures.filled (λ none. search (rules, none, c.evaluate_cells-made.ensures.call.outcome)) in
+    let kept = cells_kept g.K.Kind.same p (g.met.K.Kind.reflexive p) answers (row_count x) c.map_or.result s t holds marked refusal _ c.evaluate_cells-made.ensures.call c.evaluate_cells-made.ensures.filled (λ none. search (rules, none, c.evaluate_cells-made.ensures.call.outcome)) in
     absurd (c.if-not-is_kept.ensures (subst (λ (vs : List _). ValuesKept g.K.Kind.same p vs c.as_column.result.marks.now c.map_or.result (length vs)) (sym values) (subst (λ (ms : List Bool). ValuesKept g.K.Kind.same p t.values ms c.map_or.result (length t.values)) (sym marks) kept.0), subst (λ (ms : List Bool). MarksKept ms c.map_or.result (length ms)) (sym marks) kept.1))
 
 pub returns-in-Ok : goal.returns-in-Ok
