@@ -50,14 +50,18 @@ module _ (gs hs : List Group) (k : ℕ) (left : List Group) (a : Left hs k left)
       let e = at_next hs k left a x more n in
       (record { rest = e.2; within = omega (arith, e.0) }, below_more (λ k. differ (get_or gs k (0, 0)) (get_or hs k (0, 0)) ≡ false) k g (rw e.1 d))
 
-  -- the list that is compared is at its end
-  pub none_left : k ≡ length gs → (r : Option Group) → Next r → (f : Option ℕ) → MatchOption r (f ≡ None) (λ x. f ≡ Some (length gs)) → f ≡ groups_fault gs hs
-  none_left q None n f e =
-      let end = at_end hs k left a n.0 in
-      e ∙ fault_none (λ k. differ (get_or gs k (0, 0)) (get_or hs k (0, 0))) (length gs) (length hs) (omega (arith, end)) (λ j h. g j (omega arith))
-  none_left q (Some x) n f e =
-      let more = at_next hs k left a x more n in
-      e ∙ fault_some (λ k. differ (get_or gs k (0, 0)) (get_or hs k (0, 0))) (length gs) (length hs) (length gs) (omega (arith, more.0)) (omega (arith, more.0)) (λ j h. g j (omega arith)) (λ l. absurd (omega arith))
+module _ (gs hs : List Group) (k : ℕ) (left : List Group) (a : Left hs k left) (g : Agree gs hs k) where
+  -- the list that is compared is at its end, and so are they
+  pub all_seen : k ≡ length gs → left ≡ [] → None ≡ groups_fault gs hs
+  all_seen q e =
+      let end = at_end hs k left a e in
+      fault_none (λ k. differ (get_or gs k (0, 0)) (get_or hs k (0, 0))) (length gs) (length hs) (omega (arith, end)) (λ j h. g j (omega arith))
+
+  -- the list that is compared is at its end, and they are not
+  pub more_left : k ≡ length gs → 0 < length left → Some (length gs) ≡ groups_fault gs hs
+  more_left q h =
+      let lt : k < length hs = omega (arith, length-drop k hs, ap length a.rest) in
+      fault_some (λ k. differ (get_or gs k (0, 0)) (get_or hs k (0, 0))) (length gs) (length hs) (length gs) (omega (arith, lt)) (omega (arith, lt)) (λ j h. g j (omega arith)) (λ l. absurd (omega arith))
 
 -- one more of them over the front of a list
 front_more : (hs old now : List Group) (k : ℕ) (g : Group) → k < length hs → length hs ≤ length old → get_or hs k (0, 0) ≡ g → now ≡ take k hs ++ drop k old → set now k g ≡ take (k + 1) hs ++ drop (k + 1) old

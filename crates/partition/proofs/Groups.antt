@@ -3,8 +3,7 @@ use Rattle.std.proofs.Common.{◌≡◌, ℕ, zero, suc, ◌+◌, ◌-◌, ◌<�
 use Rattle.std.proofs.lemmas.List.{drop_more, drop_all, length-drop, get_or-drop, drop-drop}
 use Rattle.std.proofs.lemmas.Bool.{cond-true, cond-false, cond_both, cases_Bool, cases_eq}
 use Rattle.column.specs.Cells.{same_cell}
-use Rattle.std.specs.Cmp.{IsEquivalence}
-use Rattle.column.proofs.Sameness.{holds, sameness}
+use Rattle.column.proofs.Sameness.{holds}
 use Rattle.partition.specs.Peers.{Group, continued, peers_from, peers, IsGroup, Tiled, PeerLaw}
 
 pub same_self : {V : Type 0} (same : V → V → Bool) → ((x : V) → T (same x x)) → (c : Option V) → same_cell same c c ≡ true
@@ -53,6 +52,10 @@ module _ {V : Type 0} (same : V → V → Bool) where
   continued_some [] c s j = omega arith
   continued_some (d ∷ ds) c s j = cond_both (same_cell same c d) (continued same c s (j + 1) ds) ((s, j) ∷ continued same d j (j + 1) ds) (λ gs. 0 < length gs) (λ y. continued_some ds c s (j + 1)) (λ n. omega arith)
 
+  -- where there is a row at or after row s there is a group
+  pub left_some : (cs : List (Option V)) (s : ℕ) → s < length cs → 0 < length (peers_from same s (drop s cs))
+  left_some cs s h = rw (drop_more cs s None h) (continued_some (drop (s + 1) cs) (get_or cs s None) s (s + 1))
+
   -- where there is a row there is a group
   pub peers_some : (cs : List (Option V)) → 0 < length cs → 0 < length (peers same cs)
   peers_some [] h = absurd (omega arith)
@@ -97,7 +100,3 @@ module _ {V : Type 0} (same : V → V → Bool) where
   -- the groups of the cells tile them, and no other groups do
   pub peer_law : ((x : V) → T (same x x)) → (cs : List (Option V)) → PeerLaw same cs
   peer_law self cs = record { tiled = tiled self cs; only = λ gs t. only cs 0 gs t }
-
--- the same of a kind, by its laws
-pub kind_law : {V : Type 0} (eq same : V → V → Bool) → IsEquivalence eq → ((x y : V) → eq x y ≡ same x y) → (cs : List (Option V)) → PeerLaw same cs
-kind_law eq same laws tested = peer_law same (sameness eq same laws tested).reflexive

@@ -1,4 +1,4 @@
-ghost use Rattle.std.specs.Prelude.{◌≡◌, ◌<◌, ◌≤◌, length};
+ghost use Rattle.std.specs.Prelude.{◌≡◌, ◌<◌, ◌≤◌, true, false, [], length};
 ghost use Rattle.std.specs.Iterator.{YieldsFirst, item_count};
 ghost use Rattle.column.specs.Cells.{column_cells};
 ghost use Rattle.column.specs.Refusal.{passes, yields, kept_or};
@@ -35,6 +35,14 @@ impl<'a, K: Kind> PeerGroups<'a, K> {
             .find(|row| !same_cell(first, column.cell(*row)))
             .unwrap_or(n)
     }
+
+    // Whether no row is left, and so no group: the next group itself is not worked out.
+    fn is_done(&self) -> bool
+        ensures all { result ≡ true → groups_left K.Kind.same self.now ≡ [] }
+        ensures some { result ≡ false → 0 < length (groups_left K.Kind.same self.now) }
+    {
+        self.start >= self.column.values.len()
+    }
 }
 
 impl<K: Kind> Iterator for PeerGroups<'_, K> {
@@ -67,7 +75,11 @@ pub(crate) fn groups_fault<K: Kind>(
             return Some(k);
         }
     }
-    own.next().map(|_| groups.len())
+    if own.is_done() {
+        None
+    } else {
+        Some(groups.len())
+    }
 }
 
 // There is a place for each group.
