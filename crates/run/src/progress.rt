@@ -48,6 +48,10 @@ impl Progress {
             return Err(Fault::NoRowLeft(self.next));
         }
         window.rows.check()?;
+        // a window that begins past the limit ends past it; of any other the end is a plain sum
+        if window.begin > ROW_LIMIT {
+            return Err(Fault::RowLimit(ROW_LIMIT));
+        }
         let end = window.end();
         if end > ROW_LIMIT {
             return Err(Fault::RowLimit(ROW_LIMIT));

@@ -1,4 +1,4 @@
-ghost use Rattle.std.specs.Prelude.{◌≡◌, ◌<◌, ◌≤◌, MatchResult};
+ghost use Rattle.std.specs.Prelude.{◌≡◌, ◌<◌, ◌≤◌, ⊤, MatchResult};
 ghost use Rattle.column.specs.declared.fault.Fault.TheVariants.{TooEarly};
 ghost use Rattle.column.specs.Refusal.{row_limit};
 ghost use Rattle.run.specs.Shown.{end_of};
@@ -8,9 +8,9 @@ use column::column::Window;
 use column::fault::Fault;
 use column::kind::Kind;
 use evaluator::evaluator::Evaluator;
+use std::alloc::AllocError;
 
 // What a run hands to a row call, once its checks have passed; only runs can make one.
-#[derive(Drop)]
 pub struct Turn<'a, K> {
     pub(crate) next: usize,
     pub(crate) window: Window<'a, K>,
@@ -18,6 +18,19 @@ pub struct Turn<'a, K> {
     pub(crate) known: bool,
     ghost limited: { end_of window ≤ row_limit },
 }
+
+// By hand: beside a ghost field `Clone` cannot be derived.
+impl<K: Copy> Clone for Turn<'_, K> {
+    ghost is_clone = { λ x y. y ≡ x };
+
+    ghost is_infallible = { λ _. ⊤ };
+
+    fn clone(&self) -> Result<Self, AllocError> {
+        Ok(*self)
+    }
+}
+
+impl<K: Copy> Copy for Turn<'_, K> {}
 
 impl<'a, K: Kind> Turn<'a, K> {
     // The row that is asked for.
