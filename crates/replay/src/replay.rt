@@ -1,4 +1,4 @@
-ghost use Rattle.std.specs.Prelude.{◌≡◌, length, IfOk};
+ghost use Rattle.std.specs.Prelude.{◌≡◌, length, IfOk, MatchResult};
 ghost use Rattle.replay.specs.declared.calls.Call.TheVariants.{Close};
 ghost use Rattle.replay.specs.Act.{Acted, Ended, Followed, evaluator_after, evaluator_of, progress_of, total_now};
 ghost use Rattle.replay.specs.History.{Replayed, close_outcome, history, total_after};
@@ -63,6 +63,33 @@ fn close<E: RowEvaluator>(run: Run<E>, total: usize) -> (Run<E>, Result<Reply<E:
     }
 }
 
+// Makes a call where the run lies; of a close, which takes the run itself, it gives the total.
+fn act_in_place<E: RowEvaluator>(
+    run: &mut Run<E>,
+    call: &Call<'_, E::Value>,
+) -> Result<Entry<E::Answer>, usize>
+    ensures acted { MatchResult result (λ entry. Acted E.Evaluator.meaning E.Evaluator.WANTS_FRAMES call.now run.old run.new entry) (λ total. (call.now ≡ Close total) × (run.new ≡ run.old)) }
+    ensures leaves { IfOk result (λ entry. evaluator_of run.new ≡ evaluator_after E.RowEvaluator.stepped E.RowEvaluator.settling (progress_of run.old) call.now entry.outcome (evaluator_of run.old)) }
+{
+    let mark = keep_mark(run);
+    let outcome = match call {
+        Call::Request(window, frame) => request(run, window, *frame).map(Reply::Answer),
+        Call::Settle => settle(run).map(|_| Reply::Done),
+        Call::KeepMark => Ok(Reply::Mark(mark)),
+        Call::Close(total) => return Err(*total),
+    };
+    Ok(Entry { mark, outcome })
+}
+
+fn act_close<E: RowEvaluator>(run: Run<E>, total: usize) -> (Run<E>, Entry<E::Answer>)
+    ensures acted { Acted {V = E.Value} E.Evaluator.meaning E.Evaluator.WANTS_FRAMES (Close total) run result.0 result.1 }
+    ensures leaves { evaluator_of result.0 ≡ evaluator_of run }
+{
+    let mark = keep_mark(&run);
+    let (moved, outcome) = close(run, total);
+    (moved, Entry { mark, outcome })
+}
+
 // Makes one call on a run.
 pub fn act<E: RowEvaluator>(
     mut run: Run<E>,
@@ -71,17 +98,10 @@ pub fn act<E: RowEvaluator>(
     ensures acted { Acted E.Evaluator.meaning E.Evaluator.WANTS_FRAMES call.now run result.0 result.1 }
     ensures leaves { evaluator_of result.0 ≡ evaluator_after E.RowEvaluator.stepped E.RowEvaluator.settling (progress_of run) call.now result.1.outcome (evaluator_of run) }
 {
-    let mark = keep_mark(&run);
-    let outcome = match call {
-        Call::Request(window, frame) => request(&mut run, window, *frame).map(Reply::Answer),
-        Call::Settle => settle(&mut run).map(|_| Reply::Done),
-        Call::KeepMark => Ok(Reply::Mark(mark)),
-        Call::Close(total) => {
-            let (moved, outcome) = close(run, *total);
-            return (moved, Entry { mark, outcome });
-        }
-    };
-    (run, Entry { mark, outcome })
+    match act_in_place(&mut run, call) {
+        Ok(entry) => (run, entry),
+        Err(total) => act_close(run, total),
+    }
 }
 
 // A run after a list of calls, and what came of each.
@@ -103,8 +123,14 @@ pub fn replay<E: RowEvaluator + Drop>(
     let mut run = Run::Opened(Open::new(evaluator, from_zero));
     let mut entries = Vec::with_capacity(heap, calls.len())?;
     for call in calls {
-        let (moved, entry) = act(run, call);
-        run = moved;
+        let entry = match act_in_place(&mut run, call) {
+            Ok(entry) => entry,
+            Err(total) => {
+                let (moved, entry) = act_close(run, total);
+                run = moved;
+                entry
+            }
+        };
         entries.push(entry)?;
     }
     Ok(Played { run, entries })
