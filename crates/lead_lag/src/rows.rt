@@ -26,7 +26,8 @@ impl Way {
         match self {
             Way::Own => Some(i),
             Way::Back(m) => i.checked_sub(m),
-            Way::Ahead(m) => i.checked_add(m).filter(|row| *row < n),
+            Way::Ahead(m) if i < n && m < n - i => Some(i + m),
+            Way::Ahead(_) => None,
         }
     }
 }

@@ -6,3 +6,4 @@ pub mod Parts
 pub mod Turned
 pub mod Counting
 pub mod Found
+mod First

@@ -17,8 +17,17 @@ pub fn present_ahead<K: Kind>(
 ) -> Option<usize>
     ensures { result ≡ slice_get (ahead (view window.now) from (end - from)) (m - 1) }
 {
-    let present = |row: &usize| window.cell(*row).is_some();
-    (from..end).filter(present).nth(m.saturating_sub(1))
+    // a loop: `filter` and `nth` took one and a half times as long
+    let mut left = m;
+    for row in from..end {
+        if window.cell(row).is_some() {
+            if left <= 1 {
+                return Some(row);
+            }
+            left -= 1;
+        }
+    }
+    None
 }
 
 // The m-th present row of those from `from` up to `end`, not included, counted from the last.
@@ -43,7 +52,7 @@ pub(crate) fn present_after<K: Kind>(
 ) -> Option<usize>
     ensures { result ≡ next_after (view window.now) row end }
 {
-    present_ahead(window, row.saturating_add(1), end, 1)
+    (row.saturating_add(1)..end).find(|row| window.cell(*row).is_some())
 }
 
 // Given the j-th present row of those from `row` on, the j-th of those from the row after it on.

@@ -1,14 +1,12 @@
-use Rattle.std.proofs.Common.{◌-◌, is_some, refl, sym, ap, ◌∙◌, rules, tests}
-use Rattle.std.specs.List.{slice_get}
-use Rattle.std.proofs.lemmas.Iterator.{YieldsList-from_range}
-use Rattle.std.proofs.lemmas.Iterator.Adapters.{option_map_id}
-use Rattle.std.proofs.lemmas.Iterator.Consumers.{YieldsList-from_filter, nth_from_yields_List}
 use Rattle.column.specs.Cells.{view}
-use Rattle.present.proofs.Chains.{ahead_filter}
+use Rattle.present.proofs.Counts.{scan_found, scan_on, scan_past}
 use Rattle.present.proofs.scan.present_ahead.Goals as goal
+use Rattle.present.proofs.scan.present_ahead.Goals.{then-is_some+else-left-le1, else-is_some}
 
-pub returns : goal.returns
-returns g c =
-    let f = view c.args.window.now in
-    let m = c.saturating_sub.result in
-    sym (option_map_id c.nth.result) ∙ nth_from_yields_List c.nth.result c.nth.new.self m c.nth.ensures.ran (YieldsList-from_filter _ (λ r. is_some (f r)) (YieldsList-from_range c.args.from c.args.end (c.args.end - c.args.from) c.filter.ensures.source refl) c.filter.ensures.closure (λ x r q k. search (rules, tests))) ∙ ap (λ xs. slice_get xs m) (ahead_filter f c.args.from (c.args.end - c.args.from)) ∙ ap (slice_get _) c.saturating_sub.ensures
+pub returns-then-left-le1 : goal.returns-then-left-le1
+returns-then-left-le1 g c =
+    scan_found (view c.args.window.now) c.loop-row.row c.args.end c.loop-row.left _ c.loop-row-test.true (cc) c.if-left-le1.true c.loop-row.invariant
+
+pub loop-row-preserved : goal.loop-row-preserved
+loop-row-preserved g c =
+    elim c.if-is_some.branch [ then-is_some+else-left-le1 w ↦ scan_on (view c.args.window.now) c.loop-row.row c.args.end c.loop-row.left c.if-is_some.left _ c.loop-row-test.true (cc) w.if-left-le1.false w.left-is c.loop-row.invariant | else-is_some w ↦ scan_past (view c.args.window.now) c.loop-row.row c.args.end c.loop-row.left c.if-is_some.left _ c.loop-row-test.true (cc) w.left-is c.loop-row.invariant ]
