@@ -21,3 +21,11 @@ pub filled_cells : {V : Type 0} (f : ℕ → Option V) (n : ℕ) (s t : CellSlot
 filled_cells f n s t room h =
     told f t.values t.marks 0 n (omega (arith, room, h.values_long)) (omega (arith, room, h.marks_long))
     (λ k x l e. chosen (f k) (get_or t.marks k false) x (get_or s.values k x) (h.marks_at k l) (e ∙ h.values_at k x l) ∙ ap f (omega arith))
+
+-- the cells of the front of two lists are the front of their cells
+pub cells_front : {V : Type 0} (n : ℕ) (vs : List V) (ms : List Bool) → cells (take n vs) (take n ms) ≡ take n (cells vs ms)
+cells_front zero vs ms = refl
+cells_front (suc n) [] ms = refl
+cells_front (suc n) (v ∷ vs) [] = refl
+cells_front (suc n) (v ∷ vs) (true ∷ ms) = ap (λ l. Some v ∷ l) (cells_front n vs ms)
+cells_front (suc n) (v ∷ vs) (false ∷ ms) = ap (λ l. None ∷ l) (cells_front n vs ms)

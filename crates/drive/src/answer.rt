@@ -44,6 +44,13 @@ pub trait Answer<K: Kind>: Show {
         ensures { IfOk result (λ s. string_bytes s ≡ whole_text K.Kind.same (Self.Show.text) E.Evaluator.WANTS_FRAMES E.Evaluator.WANTS_GROUPS (E.Evaluator.meaning evaluator.now) (handed_input handed.now) (slot_count lengths)) };
 }
 
+// So many of a list from its front, or all of it. No copy: an output list may be much longer than the answers.
+fn front<T>(list: &[T], count: usize) -> &[T]
+    ensures { result.now ≡ take count list.now }
+{
+    &list[..count.min(list.len())]
+}
+
 // The output lists after a call, and how many answers it gave.
 #[derive(Clone, Copy)]
 struct Written<'a, K> {
@@ -86,11 +93,15 @@ impl<K: Value> Written<'_, K> {
         self.values_kept(pattern) && self.marks_kept()
     }
 
+    #[tactic(auto, using(crate::proofs::Cells::cells_front))]
     fn show(&self, heap: Global) -> Result<String, AllocError>
         ensures { IfOk result (λ s. string_bytes s ≡ answers_text (cell_text K.Show.text) (take self.now.answers (column_cells self.now.lists))) }
     {
-        let mut cells = self.lists.to_cells(heap)?;
-        cells.truncate(self.answers);
+        let answered = Column {
+            values: front(self.lists.values, self.answers),
+            marks: front(self.lists.marks, self.answers),
+        };
+        let cells = answered.to_cells(heap)?;
         format!(in heap; "ok:{}", ShownList(cells.as_slice()))
     }
 }
