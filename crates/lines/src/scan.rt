@@ -1,7 +1,7 @@
 // The steps of a cursor: none goes backward.
 // `Onward` stands at each: it relates two moments of a cursor, which no invariant of one moment can.
 // `IsCharBoundary` is a premise and no ghost field: `take` and `run` go by bytes, so they may stop inside a character.
-ghost use Rattle.std.specs.Prelude.{◌≡◌, ◌≢◌, ℕ, List, [], ◌∷◌, ◌++◌, drop, ◌+◌, ◌^◌, ◌<◌, ◌≤◌, T, false, true, length, IfOk, IfErr, if◌then◌else◌, Ok, OnOk, MatchResult, decimal, nat_le, slice_get, slice_index, slice_range};
+ghost use Rattle.std.specs.Prelude.{◌≡◌, ◌≢◌, ℕ, List, [], ◌∷◌, ◌++◌, drop, ◌+◌, ◌-◌, ◌^◌, ◌<◌, ◌≤◌, T, false, true, length, IfOk, IfErr, if◌then◌else◌, Ok, OnOk, MatchResult, decimal, nat_le, slice_get, slice_index, slice_range};
 ghost use Rattle.std.specs.Int.{IsInRange};
 ghost use Rattle.std.specs.Str.{IsCharBoundary, IsUtf8};
 ghost use Rattle.std.specs.Range.{range_inclusive_start, range_inclusive_end, range_inclusive_exhausted};
@@ -60,8 +60,15 @@ impl<'a> Cursor<'a> {
         }
     }
 
+    // How many bytes are left.
+    pub fn left(&self) -> usize
+        ensures { result ≡ length self.now.text.now - self.now.at }
+    {
+        self.text.len() - self.at
+    }
+
     // The next byte.
-    fn peek(&self) -> Option<u8>
+    pub fn peek(&self) -> Option<u8>
         ensures { result ≡ slice_get self.now.text.now self.now.at }
     {
         self.text.as_bytes().get(self.at).copied()
